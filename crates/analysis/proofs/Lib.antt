@@ -1,0 +1,5 @@
+pub mod Least
+pub mod Demands
+pub mod Eased
+pub mod Checks
+pub mod Chosen
