@@ -1,0 +1,12 @@
+use mathlib.Core.Path.{_≡_, ap, _∙_}
+use Prim.Native.Nat.{_-_}
+use native.Mathlib.Omega.{arith}
+use lib.ListN.{length, take}
+use Rattle.layers.proofs.Layered.{charged-answer}
+use Rattle.layers.proofs.charge.ChargeAnalysis.ask.Needs as need
+
+pub returns : need.returns
+returns g c =
+    let n : length (c .args .table .now) - 0 ≡ length (c .args .table .now) = omega arith in
+    charged-answer (c .args .self .now .ticks .value) (g .A·Analysis .verdict (c .args .self .now .below)) (c .args .table .now) _ (c .args .marks .now) (c .args .place) _
+    (c .in-Continue-check-question .ensures tt .fair) (ap (λ k. take k (c .raise-all-rows .result)) n ∙ c .raise-all-rows .ensures) (c .ask .ensures)

@@ -1,0 +1,5 @@
+pub mod Layers
+pub mod Held
+pub mod Lists
+pub mod Outcomes
+pub mod Piles
