@@ -17,17 +17,24 @@ pub data Outcome : Type 0 where
   accepted : ℕ → Outcome
   refused : (code field : ℕ) → Outcome
 
--- the code and the field of each fault
-abbrev pub code-of : LayerFault → Outcome
-code-of (Range field) = refused 3 field
-code-of Equal = refused 8 0
-code-of Held = refused 9 0
-code-of Full = refused 10 0
+-- the code of each fault
+abbrev pub layer-code : LayerFault → ℕ
+layer-code (Range field) = 3
+layer-code Equal = 8
+layer-code Held = 9
+layer-code Full = 10
+
+-- the field that it names, 0 where it names none
+abbrev pub layer-field : LayerFault → ℕ
+layer-field (Range field) = field
+layer-field Equal = 0
+layer-field Held = 0
+layer-field Full = 0
 
 -- the outcome of a call that answers with a setting, whose number is told by a function
 abbrev pub setting-of : {X : Type 0} → (X → ℕ) → Result X LayerFault → Outcome
 setting-of value (Ok x) = accepted (value x)
-setting-of value (Err e) = code-of e
+setting-of value (Err e) = refused (layer-code e) (layer-field e)
 
 -- the outcome of a call that answers with nothing
 abbrev pub outcome-of : Result (Unit {0}) LayerFault → Outcome

@@ -4,7 +4,7 @@ ghost use mathlib.Core.Path.{_≡_};
 ghost use Prim.Native.Nat.{_≤_};
 ghost use lib.ListN.{length, take};
 ghost use Rattle.layers.specs.Layers.{charged, raised};
-use crate::settings::Ticks;
+use crate::ticks::Ticks;
 use analysis::Analysis;
 use analysis::Mark;
 use analysis::QuestionFault;

@@ -6,7 +6,8 @@ mod margin;
 mod pair;
 mod pair_list;
 mod pairs;
-mod settings;
+mod percent;
+mod ticks;
 
 pub use charge::Charge;
 pub use charge::ChargeAnalysis;
@@ -19,5 +20,5 @@ pub use pair::PairKeyed;
 pub use pair_list::PairList;
 pub use pairs::Pairs;
 pub use pairs::PairsAnalysis;
-pub use settings::Percent;
-pub use settings::Ticks;
+pub use percent::Percent;
+pub use ticks::Ticks;

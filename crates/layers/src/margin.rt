@@ -1,6 +1,6 @@
 //! A part of the deadline kept free.
 ghost use Rattle.layers.specs.Layers.{with-margin};
-use crate::settings::Percent;
+use crate::percent::Percent;
 use analysis::Analysis;
 use analysis::Mark;
 use analysis::QuestionFault;

@@ -56,7 +56,7 @@ impl<T: Keyed> Kept<T> {
     pub fn is_full(&self) -> bool
         ensures { λ r. ⌜ r ≡ leb (now (self .entry) .most) (length (vec-items (now (self .entry) .items))) ⌝ }
     {
-        self.most <= self.items.len()
+        self.items.len() >= self.most
     }
 
     /// The elements, by ascending key.
@@ -77,7 +77,7 @@ impl<T: Keyed> Kept<T> {
         if self.most <= self.items.len() {
             return Err(item);
         }
-        let at = place(self.items.as_slice(), item.key());
+        let at = place(self.as_slice(), item.key());
         match self.items.insert(at, item) {
             Ok(()) => Ok(()),
             Err(_) => unreachable(),

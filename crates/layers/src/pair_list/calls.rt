@@ -57,7 +57,7 @@ impl PairList {
             return Err(LayerFault::Equal);
         }
         let pair = Pair { upper, lower };
-        if holds(self.pairs.as_slice(), pair) {
+        if holds(self.as_slice(), pair) {
             return Err(LayerFault::Held);
         }
         match self.pairs.insert(pair) {

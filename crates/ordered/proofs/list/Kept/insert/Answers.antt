@@ -1,5 +1,5 @@
 -- The vector's insertion at the place of the key is the insertion by key, which keeps the order.
-use mathlib.Core.Path.{_≡_, refl, sym, _∙_}
+use mathlib.Core.Path.{_≡_, refl, ap}
 use mathlib.Core.Bool.{true, false, cond}
 use Prim.Native.Nat.{_≤_, _<_}
 use native.Mathlib.Omega.{arith}
@@ -26,14 +26,15 @@ returns-then-self-len g c =
 pub insert-requires : need.insert-requires
 insert-requires g c κs =
     let h = place-within (g .T·Keyed .key) (c .key .result) (c .as-slice .result .now) in
-    omega (arith, c .place-at .ensures, c .as-slice .ensures .len)
+    let n = ap length (c .as-slice .ensures) in
+    omega (arith, c .place-at .ensures, c .args .self .now .items .ok .0)
 
 pub returns : need.returns
 returns g c =
     let free : ltb (length (vec-items (c .args .self .now .items))) (c .args .self .now .most) ≡ true =
     lt-ltb (length (vec-items (c .args .self .now .items))) (c .args .self .now .most) (omega (arith, c .len .ensures, c .args .self .now .items .ok .0)) in
     let at : c .place-at .result ≡ place-by (g .T·Keyed .key) (g .T·Keyed .key (c .args .item)) (vec-items (c .args .self .now .items)) =
-    let a = c .place-at .ensures in let b = c .as-slice .ensures .value in let d = c .key .ensures in cc in
+    let a = c .place-at .ensures in let b = c .as-slice .ensures in let d = c .key .ensures in cc in
     let is = inserted-is (g .T·Keyed .key) (c .args .item) (vec-items (c .args .self .now .items)) in
     let e : vec-items (c .insert .last .self) ≡ inserted-by (g .T·Keyed .key) (c .args .item) (vec-items (c .args .self .now .items)) =
     let i = c .in-Ok .ensures tt .items in cc in
