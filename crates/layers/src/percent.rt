@@ -12,6 +12,13 @@ pub struct Percent {
 }
 
 impl Percent {
+    /// None: no margin.
+    pub fn zero() -> Percent
+        ensures { λ r. ⌜ r .value ≡ 0 ⌝ }
+    {
+        Percent { value: 0 }
+    }
+
     /// So many percent; refused over 99.
     pub fn new(value: u32) -> Result<Percent, LayerFault>
         ensures { λ r. ⌜ setting-of (λ s. s .value) r ≡ setting 99 value ⌝ }

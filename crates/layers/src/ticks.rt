@@ -12,6 +12,13 @@ pub struct Ticks {
 }
 
 impl Ticks {
+    /// None: no charge.
+    pub fn zero() -> Ticks
+        ensures { λ r. ⌜ r .value ≡ 0 ⌝ }
+    {
+        Ticks { value: 0 }
+    }
+
     /// So many ticks; refused over 10,000.
     pub fn new(value: u32) -> Result<Ticks, LayerFault>
         ensures { λ r. ⌜ setting-of (λ s. s .value) r ≡ setting 10000 value ⌝ }

@@ -1,0 +1,10 @@
+pub mod Plans
+pub mod Orders
+pub mod Lines
+pub mod PlanLaw
+pub mod Courses
+pub mod Sheets
+pub mod Rows
+pub mod Faults
+pub mod Replies
+pub mod Rounds
