@@ -20,7 +20,7 @@ use Rattle.analysis.specs.declared.question.QuestionFault.the-variants.{Range}
 use Rattle.analysis.specs.declared.row.Mark.{Mark}
 use Rattle.analysis.specs.declared.row.Row.{Row}
 
-right-range : (top : ℕ) (r : Row) → wrong-field top r ≡ 0 → InRange top r
+pub right-range : (top : ℕ) (r : Row) → wrong-field top r ≡ 0 → InRange top r
 right-range top r e =
     record {
       number-least = grind (arith, tells);
@@ -34,7 +34,7 @@ right-range top r e =
       section-most = grind (arith, tells);
     }
 
-range-right : (top : ℕ) (r : Row) → InRange top r → wrong-field top r ≡ 0
+pub range-right : (top : ℕ) (r : Row) → InRange top r → wrong-field top r ≡ 0
 range-right top r h = grind (arith, tells)
 
 wrong-here : (r : Row) (t : List Row) (f : ℕ) → wrong-field asked-cost r ≡ f → (f ≡ 0 → ⊥) → first-wrong (r ∷ t) ≡ f

@@ -1,0 +1,13 @@
+pub mod Cuts
+pub mod Steps
+pub mod Checks
+pub mod Joins
+pub mod Texts
+pub mod Puts
+pub mod Fits
+pub mod Obeying
+pub mod Sameness
+pub mod Coursing
+pub mod Taking
+pub mod Keeping
+pub mod Writing

@@ -1,0 +1,12 @@
+pub mod Lines
+pub mod Numbers
+pub mod Reading
+pub mod Says
+pub mod Answers
+pub mod Laws
+pub mod Refusals
+pub mod Sessions
+pub mod Turns
+pub mod Works
+pub mod Same
+pub mod Begun
