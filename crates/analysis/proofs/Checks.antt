@@ -10,7 +10,7 @@ use Rattle.std.specs.Results.{Cases}
 use Rattle.std.specs.declared.result.Result.{Result}
 use Rattle.std.specs.declared.result.Result.the-variants.{Ok, Err}
 use Rattle.std.proofs.shelf.Lists.{drop-more}
-use Rattle.std.proofs.shelf.Tests.{cond-true, cond-false, eqb-true, eqb-false, eq-eqb, ne-eqb, cases-bool}
+use Rattle.std.proofs.shelf.Tests.{cond-true, cond-false, eqb-true, eq-eqb, ne-eqb, cases-bool}
 use Rattle.std.proofs.shelf.Ways.{tells}
 use Rattle.analysis.specs.Answers.{answer, checked, first-wrong, judged}
 use Rattle.analysis.specs.Questions.{Fair, Meaning, no-row, row-at}

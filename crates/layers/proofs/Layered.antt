@@ -1,15 +1,16 @@
 -- The layers keep the four laws of the analysis below them. Assumes nothing.
-use mathlib.Core.Path.{_≡_, refl, sym, ap, _∙_}
+use mathlib.Core.Path.{_≡_, sym, ap, _∙_}
 use mathlib.Core.Logic.{inl, inr}
 use mathlib.Core.List.{List, map}
-use Prim.Native.Nat.{ℕ, suc, _+_, _-_, _*_, _≤_, _<_, min}
+use Prim.Native.Nat.{ℕ, suc, _-_, _*_, _≤_, _<_}
 use native.Mathlib.Omega.{arith}
 use lib.Dec.{leb}
 use lib.ListN.{length, set, take, drop}
 use Rattle.std.specs.Holes.{removed}
 use Rattle.std.proofs.shelf.Lists.{getD-map, length-map, map-append, take-map, drop-map}
+use Rattle.std.proofs.shelf.Ways.{tells}
 use Rattle.std.proofs.shelf.Tests.{cases-bool, cond-true, cond-false, le-leb, leb-true}
-use Rattle.analysis.specs.Answers.{Answer, answer, judged}
+use Rattle.analysis.specs.Answers.{Answer, answer}
 use Rattle.analysis.specs.Laws.{OnTimeBy, Bounds, Promotion, Withdrawal, OwnMark, place-after}
 use Rattle.layers.specs.Layers.{charged, kept-within, raised, with-margin}
 use Rattle.analysis.specs.Questions.{Fair, Meaning, no-row, row-at}
@@ -19,7 +20,7 @@ use Rattle.analysis.specs.declared.row.Mark.the-variants.{Below}
 use Rattle.analysis.specs.declared.row.Row.{Row}
 use Rattle.analysis.specs.declared.row.Verdict.{Verdict}
 use Rattle.analysis.specs.declared.row.Verdict.the-variants.{OnTime, Late}
-use Rattle.analysis.proofs.Checks.{fair-answer}
+use Rattle.analysis.proofs.Checks.{fair-answer, right-range}
 use Rattle.analysis.proofs.Eased.{row-removed}
 
 kept-on-time : (p d w : ℕ) (x : Verdict) → kept-within p d x ≡ OnTime w → (x ≡ OnTime w) × (w * 100 ≤ d * (100 - p))
@@ -58,18 +59,7 @@ module _ (p : ℕ) (v : Meaning) where
 
 -- a row that is raised
 raised-range : (s : ℕ) (r : Row) → InRange asked-cost r → InRange asked-cost (raised s r)
-raised-range s r h =
-    record {
-      number-least = h .number-least;
-      number-most = h .number-most;
-      cost-least = omega arith;
-      cost-most = omega arith;
-      period-least = h .period-least;
-      period-most = h .period-most;
-      deadline-least = h .deadline-least;
-      deadline-most = h .deadline-most;
-      section-most = omega arith;
-    }
+raised-range s r h = right-range asked-cost (raised s r) (grind (arith, tells))
 
 row-raised : (s : ℕ) (t : List Row) (k : ℕ) → k < length t → row-at (map (raised s) t) k ≡ raised s (row-at t k)
 row-raised s t k l = getD-map (raised s) t k no-row no-row l

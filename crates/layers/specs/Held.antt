@@ -3,7 +3,7 @@ use mathlib.Core.List.{List}
 use mathlib.Core.Bool.{Bool, not, _&&_}
 use Prim.Native.Nat.{ℕ}
 use lib.Dec.{eqb, leb}
-use Rattle.ordered.specs.Tests.{apart, every, some-same}
+use Rattle.ordered.specs.Tests.{apart, every, some}
 use Rattle.layers.specs.declared.pair.Pair.{Pair}
 
 -- the second pair has the numbers of the first
@@ -12,7 +12,7 @@ same-pair p q = eqb (q .upper) (p .upper) && eqb (q .lower) (p .lower)
 
 -- the pair is one of these
 abbrev pub has-pair : Pair → List Pair → Bool
-has-pair p ps = some-same same-pair p ps
+has-pair p ps = some (same-pair p) ps
 
 -- the number may be a row's
 abbrev pub numbers-row : ℕ → Bool

@@ -31,7 +31,7 @@ head P k r Above (OnTime w) cs f h = (f refl w refl, h)
 head P k r Above Late cs f h = h
 head P k r Below d cs f h = h
 
-each-candidate :
+pub each-candidate :
     (P : Candidate → Type 0) (ask : ℕ → Verdict) (k : ℕ) (t : List Row) (m : List Mark) →
     (
     (j w : ℕ) → j < length t → getD m j Below ≡ Above → ask (k + j) ≡ OnTime w →

@@ -22,7 +22,6 @@ pub mod Keeping
 pub mod Exact
 pub mod AnswerLaw
 pub mod Course
-pub mod Ranges
 pub mod Entries
 pub mod Outcomes
 pub mod Rounds

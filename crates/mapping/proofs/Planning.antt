@@ -2,7 +2,7 @@
 use mathlib.Core.Path.{_≡_, refl, ap, sym, _∙_}
 use mathlib.Core.List.{List, [], _∷_, _++_, append-assoc}
 use mathlib.Core.Bool.{Bool, true, false, cond, _||_}
-use Prim.Native.Nat.{ℕ, zero, suc, _+_, _-_, _≤_, _<_}
+use Prim.Native.Nat.{ℕ, zero, suc, _+_, _≤_, _<_}
 use native.Mathlib.Numerals.{add-one}
 use native.Mathlib.Omega.{arith}
 use lib.Dec.{eqb}
@@ -13,25 +13,26 @@ use Rattle.analysis.specs.declared.row.Mark.the-variants.{Above, Below}
 use Rattle.analysis.specs.declared.row.Row.{Row}
 use Rattle.analysis.specs.declared.row.Verdict.{Verdict}
 use Rattle.analysis.specs.declared.row.Verdict.the-variants.{OnTime, Late}
-use Rattle.mapping.specs.Plans.{all-above, before-rest, candidates, candidates-from, has-place, if-on-time, if-unplaced, kept, last-of, lines-from, members, placed, placed-from, plan-from, takes, unplaced}
+use Rattle.mapping.specs.Plans.{before-rest, candidates, candidates-from, has-place, if-on-time, if-unplaced, kept, last-of, lines-from, members, placed, placed-from, plan-from, takes, unplaced}
 use Rattle.mapping.specs.Replies.{last-task}
 use Rattle.mapping.specs.Rounds.{ahead}
 use Rattle.mapping.specs.declared.plan.PlanLine.{PlanLine}
 use Rattle.mapping.specs.declared.plan.Rule.{Rule}
 use Rattle.mapping.specs.declared.round.Candidate.{Candidate}
-use Rattle.mapping.proofs.Rounds.{Every, places-from}
+use Rattle.mapping.proofs.Candidates.{each-candidate}
 use Rattle.mapping.proofs.Placements.{both-below, placed-none, placed-skip}
+use Rattle.std.specs.shelf.Lists.{All}
 use Rattle.std.proofs.shelf.Tests.{cond-false, cond-true, eq-eqb, ne-eqb, or-from}
 use Rattle.std.specs.declared.option.Option.{Option}
 use Rattle.std.specs.declared.option.Option.the-variants.{Some, None}
 
 -- ---- each member takes one row off the unplaced
 
-kept-place : (f : ℕ → Bool) (k : ℕ) (cs : List Candidate) → Every (λ c. suc k ≤ c .at) cs → has-place k (kept f cs) ≡ false
+kept-place : (f : ℕ → Bool) (k : ℕ) (cs : List Candidate) → All (λ c. suc k ≤ c .at) cs → has-place k (kept f cs) ≡ false
 kept-place f k [] e = refl
 kept-place f k (c ∷ cs) e =
-    let more = kept-place f k cs (λ j l. e (suc j) (omega arith)) in
-    let ne : c .at ≡ k → ⊥ = λ d. omega (arith, e 0 (omega arith)) in
+    let more = kept-place f k cs (e .1) in
+    let ne : c .at ≡ k → ⊥ = λ d. omega (arith, e .0) in
     let P : Bool → Type 0 = λ b. has-place k (cond b (c ∷ kept f cs) (kept f cs)) ≡ false in
     elim (f (c .row .period)) as P [ true ↦ or-from (eqb (c .at) k) (has-place k (kept f cs)) (ne-eqb (c .at) k ne) more | false ↦ more ]
 
@@ -68,7 +69,7 @@ left-kept f ask k [] m = omega (arith, ap (λ (u : List Mark). unplaced u) (plac
 left-kept f ask k (r ∷ t) [] = omega arith
 left-kept f ask k (r ∷ t) (x ∷ m) =
     left-here f x (ask k) k r (candidates-from ask (suc k) t m) m
-    (kept-place f k (candidates-from ask (suc k) t m) (places-from ask (suc k) t m))
+    (kept-place f k (candidates-from ask (suc k) t m) (each-candidate (λ c. suc k ≤ c .at) ask (suc k) t m (λ j w l e q. omega arith)))
     (left-kept f ask (suc k) t m)
 
 members-as : (rule : Rule) (cs : List Candidate) → (f : ℕ → Bool) × (members rule cs ≡ kept f cs)

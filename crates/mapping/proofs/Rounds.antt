@@ -1,15 +1,14 @@
 -- The candidates of a round, one row after another. Assumes nothing.
 use mathlib.Core.Path.{_≡_, refl, ap, sym, _∙_}
 use mathlib.Core.List.{List, [], _∷_, _++_, append-assoc}
-use mathlib.Core.Bool.{Bool, true, false, cond, _||_}
-use mathlib.Core.Logic.{_⊎_, inl, inr}
-use Prim.Native.Nat.{ℕ, zero, suc, _+_, _-_, _%_, _≤_, _<_, min}
+use mathlib.Core.Bool.{Bool, true, false, cond}
+use Prim.Native.Nat.{ℕ, suc, _+_, _-_, _%_, _≤_, _<_, min}
 use native.Mathlib.Numerals.{add-one}
 use native.Mathlib.Omega.{arith}
 use lib.Dec.{eqb}
 use lib.ListN.{length, drop, take, getD, set}
 use lib.Seq.{drop-cons}
-use Rattle.analysis.specs.Questions.{no-row, row-at}
+use Rattle.analysis.specs.Questions.{Meaning, no-row, row-at}
 use Rattle.analysis.specs.declared.row.Mark.{Mark}
 use Rattle.analysis.specs.declared.row.Mark.the-variants.{Above, Below}
 use Rattle.analysis.specs.declared.row.Row.{Row}
@@ -17,11 +16,11 @@ use Rattle.analysis.specs.declared.row.Verdict.{Verdict}
 use Rattle.analysis.specs.declared.row.Verdict.the-variants.{OnTime, Late}
 use Rattle.mapping.specs.declared.plan.Rule.{Rule}
 use Rattle.mapping.specs.declared.plan.Rule.the-variants.{Equal, Divided}
-use Rattle.mapping.specs.declared.round.Lead.{Lead}
-use Rattle.mapping.specs.Plans.{candidates-from, has-place, if-on-time, if-unplaced, kept, lines-from, last-of, members, placed-from, shortest-divisor, takes, unplaced}
-use Rattle.mapping.specs.Rounds.{led, no-candidate}
-use Rattle.mapping.specs.declared.plan.PlanLine.{PlanLine}
+use Rattle.mapping.specs.Plans.{candidates, candidates-from, if-on-time, if-unplaced, kept, last-of, members, shortest-divisor, takes, unplaced}
+use Rattle.mapping.specs.Rounds.{Asked, Usable, led, no-candidate}
 use Rattle.mapping.specs.declared.round.Candidate.{Candidate}
+use Rattle.mapping.proofs.Candidates.{each-candidate}
+use Rattle.std.proofs.shelf.Elements.{all-getD}
 use Rattle.std.proofs.shelf.Lists.{take-more-set}
 use Rattle.std.proofs.shelf.Tests.{cond-false, cond-true, eq-eqb, ne-eqb}
 
@@ -73,41 +72,15 @@ shortest-else p cs i h l e =
 
 -- ---- what holds of each candidate
 
-abbrev pub Every : (Candidate → Type 0) → List Candidate → Type 0
-Every P cs = (k : ℕ) → k < length cs → P (getD cs k no-candidate)
-
-every-cons : (P : Candidate → Type 0) (c : Candidate) (cs : List Candidate) → P c → Every P cs → Every P (c ∷ cs)
-every-cons P c cs h e zero l = h
-every-cons P c cs h e (suc k) l = e k (omega arith)
-
-every-here :
-    (P : Candidate → Type 0) (x : Mark) (y : Verdict) (k : ℕ) (r : Row) (rest : List Candidate) →
-    ((w : ℕ) → P (record { at = k; row = r; response = w })) → Every P rest → Every P (if-unplaced x (if-on-time k r y) ++ rest)
-every-here P Above (OnTime w) k r rest h e = every-cons P (record { at = k; row = r; response = w }) rest (h w) e
-every-here P Above Late k r rest h e = e
-every-here P Below y k r rest h e = e
-
-pub places-below : (ask : ℕ → Verdict) (k n : ℕ) (t : List Row) (m : List Mark) → k + length t ≤ n → Every (λ c. c .at < n) (candidates-from ask k t m)
-places-below ask k n [] m h = λ j l. absurd (omega arith)
-places-below ask k n (r ∷ t) [] h = λ j l. absurd (omega arith)
-places-below ask k n (r ∷ t) (x ∷ m) h =
-    every-here (λ c. c .at < n) x (ask k) k r (candidates-from ask (suc k) t m) (λ w. omega arith) (places-below ask (suc k) n t m (omega arith))
-
-pub places-from : (ask : ℕ → Verdict) (k : ℕ) (t : List Row) (m : List Mark) → Every (λ c. k ≤ c .at) (candidates-from ask k t m)
-places-from ask k [] m = λ j l. absurd (omega arith)
-places-from ask k (r ∷ t) [] = λ j l. absurd (omega arith)
-places-from ask k (r ∷ t) (x ∷ m) =
-    every-here (λ c. k ≤ c .at) x (ask k) k r (candidates-from ask (suc k) t m) (λ w. omega arith)
-    (λ j l. omega (arith, places-from ask (suc k) t m j l))
-
-pub periods-above :
-    (ask : ℕ → Verdict) (k : ℕ) (t : List Row) (m : List Mark) → ((j : ℕ) → j < length t → 0 < row-at t j .period) →
-    Every (λ c. 0 < c .row .period) (candidates-from ask k t m)
-periods-above ask k [] m h = λ j l. absurd (omega arith)
-periods-above ask k (r ∷ t) [] h = λ j l. absurd (omega arith)
-periods-above ask k (r ∷ t) (x ∷ m) h =
-    every-here (λ c. 0 < c .row .period) x (ask k) k r (candidates-from ask (suc k) t m) (λ w. h 0 (omega arith))
-    (periods-above ask (suc k) t m (λ j l. h (suc j) (omega arith)))
+-- those of a table of which each row can be asked about can be used
+pub usable : (v : Meaning) (t : List Row) (m : List Mark) → Asked t m → Usable (length m) (candidates v t m)
+usable v t m a =
+    let at = each-candidate (λ c. c .at < length m) (v t m) 0 t m (λ j w l e q. omega (arith, a .marked)) in
+    let above = each-candidate (λ c. 0 < c .row .period) (v t m) 0 t m (λ j w l e q. a .ranges j l .period-least) in
+    record {
+      places = λ k l. all-getD (λ c. c .at < length m) (candidates v t m) k no-candidate l at;
+      periods = λ k l. all-getD (λ c. 0 < c .row .period) (candidates v t m) k no-candidate l above;
+    }
 
 count-here :
     (x : Mark) (y : Verdict) (k : ℕ) (r : Row) (rest : List Candidate) (m : List Mark) → length rest ≤ unplaced m →
@@ -128,7 +101,8 @@ min-above : (b : Bool) (x y : ℕ) → 0 < x → 0 < y → 0 < cond b (min x y) 
 min-above true x y h l = omega arith
 min-above false x y h l = l
 
-pub shortest-above : (p : ℕ) (cs : List Candidate) → 0 < p → Every (λ c. 0 < c .row .period) cs → 0 < shortest-divisor p cs
+pub shortest-above :
+    (p : ℕ) (cs : List Candidate) → 0 < p → ((k : ℕ) → k < length cs → 0 < getD cs k no-candidate .row .period) → 0 < shortest-divisor p cs
 shortest-above p [] h e = h
 shortest-above p (c ∷ cs) h e =
     min-above (eqb (p % c .row .period) 0) (c .row .period) (shortest-divisor p cs) (e 0 (omega arith))

@@ -8,11 +8,13 @@ use lib.Dec.{eqb, ltb}
 use lib.ListN.{length}
 use Rattle.std.specs.shelf.Lists.{All}
 use Rattle.std.proofs.shelf.Elements.{all-getD, all-from-getD, all-weaker}
+use Rattle.std.proofs.shelf.Ways.{tells}
 use Rattle.std.proofs.shelf.Tests.{eqb-false, cond-both, ltb-false, ltb-true}
 use Rattle.analysis.specs.Questions.{Fair, row-at, no-row}
 use Rattle.analysis.specs.Ranges.{InRange, kept-cost, asked-cost}
 use Rattle.analysis.specs.declared.row.Mark.{Mark}
 use Rattle.analysis.specs.declared.row.Row.{Row}
+use Rattle.analysis.proofs.Checks.{right-range}
 use Rattle.mapping.specs.Courses.{Accepts, Limits, entered, struck}
 use Rattle.mapping.specs.Orders.{Stands}
 use Rattle.mapping.proofs.Pairs.{Pairs, all-both, same-index}
@@ -38,18 +40,7 @@ pub record Sound (t : List Row) : Type 0 where
 -- ---- questions about such a table are fair
 
 pub wider : (r : Row) → InRange kept-cost r → InRange asked-cost r
-wider r h =
-    record {
-      number-least = h .number-least;
-      number-most = h .number-most;
-      cost-least = h .cost-least;
-      cost-most = omega (arith, h .cost-most);
-      period-least = h .period-least;
-      period-most = h .period-most;
-      deadline-least = h .deadline-least;
-      deadline-most = h .deadline-most;
-      section-most = h .section-most;
-    }
+wider r h = right-range asked-cost r (grind (arith, tells))
 
 pub sound-fair : (t : List Row) (m : List Mark) (i : ℕ) → Sound t → length m ≡ length t → i < length t → Fair t m i
 sound-fair t m i s e l =

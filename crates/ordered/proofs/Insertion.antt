@@ -1,45 +1,22 @@
 -- Insertion by key, and what it keeps. Assumes nothing.
-use mathlib.Core.Path.{_≡_, refl, ap, sym, _∙_}
-use mathlib.Core.List.{List, [], _∷_, _++_}
+use mathlib.Core.Path.{_≡_, refl, ap}
+use mathlib.Core.List.{List, [], _∷_}
 use mathlib.Core.Bool.{Bool, true, false, cond, _&&_}
-use Prim.Native.Nat.{ℕ, zero, suc, _+_, _≤_, _<_}
-use native.Mathlib.Numerals.{add-one}
+use Prim.Native.Nat.{ℕ, zero, suc, _≤_, _<_}
 use native.Mathlib.Omega.{arith}
 use lib.Dec.{leb, ltb}
-use lib.ListN.{length, drop, take, getD}
-use lib.Seq.{drop-cons, drop-length}
+use lib.ListN.{length}
 use Rattle.ordered.specs.Keys.{Inserted, ascending, from-key, inserted-by, place-by}
 use Rattle.std.specs.Holes.{inserted, removed}
 use Rattle.std.specs.shelf.Lists.{All}
 use Rattle.std.proofs.shelf.Lists.{append-nil, drop-all, take-all}
-use Rattle.std.proofs.shelf.Tests.{and-from, and-parts, le-leb, le-ltb, leb-true, lt-ltb, ltb-true, ltb-false}
+use Rattle.std.proofs.shelf.Tests.{and-from, and-parts, le-leb, leb-true, ltb-true, ltb-false}
 
 -- nothing is taken out past the end
 pub removed-past : {X : Type 0} (xs : List X) (i : ℕ) → length xs ≤ i → removed xs i ≡ xs
 removed-past xs i h = rw (take-all i xs h, drop-all (suc i) xs (omega arith)) (append-nil xs)
 
 module _ {X : Type 0} (key : X → ℕ) where
-  place-within-step : (b : Bool) (p n : ℕ) → p ≤ n → cond b 0 (suc p) ≤ suc n
-  place-within-step true p n h = omega arith
-  place-within-step false p n h = omega arith
-
-  pub place-within : (k : ℕ) (xs : List X) → place-by key k xs ≤ length xs
-  place-within k [] = omega arith
-  place-within k (y ∷ ys) = place-within-step (ltb k (key y)) (place-by key k ys) (length ys) (place-within k ys)
-
-  -- a search from the front that stands at i: the item there has a greater key, or not
-  pub place-here :
-      (k : ℕ) (xs : List X) (i : ℕ) (y : X) → i < length xs → y ≡ getD xs i y → k < key y →
-      place-by key k (drop i xs) ≡ 0
-  place-here k xs i y h e l =
-      rw (drop-cons xs i y, ← e, lt-ltb k (key y) l)
-
-  pub place-past :
-      (k : ℕ) (xs : List X) (i : ℕ) (y : X) → i < length xs → y ≡ getD xs i y → key y ≤ k →
-      place-by key k (drop i xs) ≡ suc (place-by key k (drop (i + 1) xs))
-  place-past k xs i y h e l =
-      rw (add-one, drop-cons xs i y, ← e, le-ltb k (key y) l)
-
   inserted-is-step : (b : Bool) (x y : X) (ys : List X) (p : ℕ) (zs : List X) →
       inserted ys p x ≡ zs → inserted (y ∷ ys) (cond b 0 (suc p)) x ≡ cond b (x ∷ y ∷ ys) (y ∷ zs)
   inserted-is-step true x y ys p zs e = refl

@@ -2,14 +2,14 @@
 use mathlib.Core.Path.{_≡_}
 use mathlib.Core.List.{List, [], _∷_, _++_}
 use mathlib.Core.Bool.{Bool, true, cond, _&&_}
-use Prim.Native.Nat.{ℕ, suc, _≤_, _<_}
+use Prim.Native.Nat.{ℕ, _≤_, _<_}
 use lib.Dec.{leb, ltb}
+use Rattle.ordered.specs.Tests.{first-place}
 use Rattle.std.specs.shelf.Lists.{All}
 
 -- where an element of key k goes: before the first element of a greater key
 abbrev pub place-by : {X : Type 0} → (X → ℕ) → ℕ → List X → ℕ
-place-by key k [] = 0
-place-by key k (y ∷ ys) = cond (ltb k (key y)) 0 (suc (place-by key k ys))
+place-by key k xs = first-place (λ y. ltb k (key y)) xs
 
 -- the list with the element in its place by key, after the elements of an equal one
 abbrev pub inserted-by : {X : Type 0} → (X → ℕ) → X → List X → List X

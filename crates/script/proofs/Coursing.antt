@@ -19,7 +19,7 @@ use Rattle.mapping.specs.Faults.{Outcome, accepted, enter-outcome, refused, str
 use Rattle.mapping.specs.Orders.{Stands}
 use Rattle.mapping.specs.Sheets.{has-number}
 use Rattle.mapping.proofs.Course.{course-law, course-limits}
-use Rattle.mapping.proofs.Entries.{has-from, stands-from}
+use Rattle.mapping.proofs.Entries.{none-stands, stands-from}
 use Rattle.script.specs.Lines.{lines-of}
 use Rattle.script.specs.Says.{Read, reading-of, says}
 use Rattle.script.specs.Says as said
@@ -29,6 +29,9 @@ use Rattle.script.specs.Sessions.{ScriptLaw, State, accepts, after-read, pile-
 
 absent : (n : ℕ) (t : List Row) → (Stands t n → ⊥) → has-number n t ≡ false
 absent n t f = elim (cases-bool (has-number n t)) [ inl h ↦ absurd (f (stands-from n t h)) | inr h ↦ h ]
+
+present : (n : ℕ) (t : List Row) → Stands t n → has-number n t ≡ true
+present n t s = elim (cases-bool (has-number n t)) [ inl h ↦ h | inr h ↦ absurd (none-stands n t h s) ]
 
 taken : (t : List Row) (r : Row) → Accepts t r → enter-outcome r t ≡ accepted
 taken t r a =
@@ -43,7 +46,7 @@ entry-answers t r accepted e =
     let h : has-number (r .number) t ≡ false = grind (arith, tells) in
     record {
       ranges = right-range kept-cost r w;
-      new = λ s. both-ways (has-number (r .number) t) h (has-from (r .number) t (s .0) (s .1 .0) (s .1 .1));
+      new = none-stands (r .number) t h;
       free = grind (arith, tells);
     }
 entry-answers t r (refused code field) e = λ a.
@@ -54,7 +57,7 @@ entry-answers t r (refused code field) e = λ a.
 
 struck : (t : List Row) (n : ℕ) → Limits t → Stands t n → strike-outcome n t ≡ accepted
 struck t n l s =
-    let h = has-from n t (s .0) (s .1 .0) (s .1 .1) in
+    let h = present n t s in
     let r = l .ranges (s .0) (s .1 .0) in
     let low : 1 ≤ n = omega (arith, r .number-least, s .1 .1) in
     let high : n ≤ 65535 = omega (arith, r .number-most, s .1 .1) in

@@ -1,21 +1,26 @@
 -- The place is that of the items still to come, past those that were tried.
 use native.Mathlib.Omega.{arith}
-use mathlib.Core.Path.{_≡_, subst}
-use Prim.Native.Nat.{_+_, _≤_, _<_}
-use lib.ListN.{drop, length}
+use mathlib.Core.Path.{_≡_}
+use lib.Dec.{ltb}
+use lib.ListN.{drop}
 use Rattle.ordered.specs.Keys.{place-by}
-use Rattle.ordered.proofs.Insertion.{place-here, place-past}
+use Rattle.ordered.proofs.Testing.{first-here, first-past}
 use Rattle.std.proofs.shelf.Lists.{drop-all}
+use Rattle.std.proofs.shelf.Tests.{le-ltb, lt-ltb}
 use Rattle.ordered.proofs.list.place.Needs as need
 
 pub returns-then-key : need.returns-then-key
 returns-then-key g c =
-    let h = place-here (g .T·Keyed .key) (c .args .key) (c .args .items .now) (c .loop-i .i) (c .index-items-i .result) (c .loop-i-test .taken) (c .index-items-i .is) (omega arith) in
+    let y = c .index-items-i .result in
+    let h = first-here (λ x. ltb (c .args .key) (g .T·Keyed .key x)) (c .args .items .now) (c .loop-i .i) y y (c .loop-i-test .taken) (c .index-items-i .is)
+    (lt-ltb (c .args .key) (g .T·Keyed .key y) (omega arith)) in
     omega (arith, c .loop-i .inv)
 
 pub loop-i-again : need.loop-i-again
 loop-i-again g c =
-    let h = place-past (g .T·Keyed .key) (c .args .key) (c .args .items .now) (c .loop-i .i) (c .index-items-i .result) (c .loop-i-test .taken) (c .index-items-i .is) (omega arith) in
+    let y = c .index-items-i .result in
+    let h = first-past (λ x. ltb (c .args .key) (g .T·Keyed .key x)) (c .args .items .now) (c .loop-i .i) y y (c .loop-i-test .taken) (c .index-items-i .is)
+    (le-ltb (c .args .key) (g .T·Keyed .key y) (omega arith)) in
     omega (arith, c .loop-i .inv)
 
 pub returns : need.returns

@@ -1,16 +1,14 @@
 -- The candidates that were found are those of the round, and what goes with the last of them are its members.
-use mathlib.Core.Path.{_≡_, refl, sym, _∙_, ap, subst}
+use mathlib.Core.Path.{_≡_, sym, _∙_, ap, subst}
 use mathlib.Core.List.{List, [], _++_, append-nil}
-use Prim.Native.Nat.{ℕ, _+_, _-_, _<_, _≤_}
+use Prim.Native.Nat.{ℕ, _-_, _<_}
 use native.Mathlib.Nat.{add-zero, sub-zero}
 use native.Mathlib.Omega.{arith}
 use lib.ListN.{getD, length, length-take, take}
-use Rattle.mapping.specs.Plans.{candidates, lines-from, members, placed, shortest-divisor}
+use Rattle.mapping.specs.Plans.{candidates, lines-from, members, placed}
 use Rattle.mapping.specs.Rounds.{Usable, led, no-candidate}
-use Rattle.mapping.specs.declared.plan.PlanLine.{PlanLine}
 use Rattle.mapping.specs.declared.round.Candidate.{Candidate}
-use Rattle.mapping.specs.declared.round.Lead.{Lead}
-use Rattle.mapping.proofs.Rounds.{Every, count-most, members-are, periods-above, places-below, shortest-above}
+use Rattle.mapping.proofs.Rounds.{count-most, members-are, shortest-above, usable}
 use Rattle.mapping.proofs.Placements.{placed-none}
 use Rattle.mapping.proofs.round.steps.next_task.Needs as need
 
@@ -36,8 +34,7 @@ shortest-divisor-divisor-requires g c κs =
     let t = c .args .rows .now in
     let m = c .args .marks .now in
     let e : take (c .candidates-n .result - 0) (c .candidates-n .last .found) ≡ candidates v t m = rw sub-zero (c .candidates-n .ensures .found) in
-    let P : List Candidate → Type 0 = λ cs. Every (λ x. 0 < x .row .period) cs in
-    subst P (sym e) (periods-above (v t m) 0 t m (λ j l. c .pre .asked .ranges j l .period-least))
+    subst (Usable (length m)) (sym e) (usable v t m (c .pre .asked)) .periods
 
 pub place-members-requires : need.place-members-requires
 place-members-requires g c κs =
@@ -48,18 +45,15 @@ place-members-requires g c κs =
     let found = take (n - 0) (c .candidates-n .last .found) in
     let e : found ≡ candidates v t m = rw sub-zero (c .candidates-n .ensures .found) in
     let long : length found ≡ n = simp (sub-zero, length-take) (omega (arith, c .candidates-n .ensures .bound, c .pre .asked .few)) in
-    let P : List Candidate → Type 0 = λ cs. Every (λ x. 0 < x .row .period) cs in
-    let periods : Every (λ x. 0 < x .row .period) found = subst P (sym e) (periods-above (v t m) 0 t m (λ j l. c .pre .asked .ranges j l .period-least)) in
-    let Q : List Candidate → Type 0 = λ cs. Every (λ x. x .at < length m) cs in
-    let places : Every (λ x. x .at < length m) found = subst Q (sym e) (places-below (v t m) 0 (length m) t m (omega (arith, c .pre .asked .marked))) in
+    let used = subst (Usable (length m)) (sym e) (usable v t m (c .pre .asked)) in
     let most = count-most (v t m) 0 t m in
     let same : length found ≡ length (candidates v t m) = ap (λ (cs : List Candidate). length cs) e in
     let p = getD found (n - 1) no-candidate .row .period in
-    let low : 0 < p = periods (n - 1) (omega (arith, long, c .if-n-eq0 .left)) in
-    let above = shortest-above p found low periods in
+    let low : 0 < p = used .periods (n - 1) (omega (arith, long, c .if-n-eq0 .left)) in
+    let above = shortest-above p found low (used .periods) in
     record {
       positive = omega (arith, above, c .shortest-divisor-divisor .ensures);
-      usable = record { places = places; periods = periods };
+      usable = used;
       few = omega (arith, long, c .candidates-n .ensures .bound, c .pre .asked .few);
       room = omega (arith, same, most, c .pre .room);
     }

@@ -1,21 +1,20 @@
 -- Each refusal by the test that failed, and the entry by the insertion of the list below; the course goes on by the course law.
-use mathlib.Core.Path.{_≡_, refl, sym, _∙_, ap, subst}
-use mathlib.Core.Bool.{Bool, true, false, cond}
-use mathlib.Core.List.{List}
+use mathlib.Core.Path.{_≡_, refl, sym, _∙_}
+use mathlib.Core.Bool.{true, false}
 use Prim.Native.Nat.{_<_, _≤_}
 use native.Mathlib.Omega.{arith}
 use lib.Dec.{ltb}
 use lib.ListN.{length}
 use Rattle.analysis.specs.Ranges.{kept-cost, wrong-field}
-use Rattle.analysis.specs.declared.row.Row.{Row}
-use Rattle.mapping.specs.Courses.{Continues, entered, entry}
+use Rattle.analysis.proofs.Checks.{range-right}
+use Rattle.mapping.specs.Courses.{entered, entry}
 use Rattle.mapping.specs.Rows.{rows-of}
-use Rattle.mapping.specs.Sheets.{has-number}
+use Rattle.mapping.specs.Sheets.{has-number, row-in-range, same-number}
 use Rattle.mapping.proofs.Course.{continues}
-use Rattle.mapping.proofs.Entries.{accepts-from, distinct-either, does-have, in-ranges-either, inserted-err, inserted-ok, not-has, stands-from}
+use Rattle.mapping.proofs.Entries.{accepts-from, does-have, inserted-err, inserted-ok, not-has, number-turns, stands-from}
 use Rattle.mapping.proofs.Outcomes.{full, out-of-range, standing, taken}
-use Rattle.mapping.proofs.Ranges.{none-wrong}
-use Rattle.std.proofs.shelf.Tests.{cond-false, cond-true, ltb-false, ltb-true}
+use Rattle.ordered.proofs.Testing.{apart-kept, every-kept}
+use Rattle.std.proofs.shelf.Tests.{cond-false, cond-true, eq-eqb, ltb-false, ltb-true}
 use Rattle.mapping.proofs.sheet.Sheet.enter.Needs as need
 
 pub returns-then-field-ne0 : need.returns-then-field-ne0
@@ -25,7 +24,7 @@ returns-then-field-ne0 c =
     record {
       answer = out-of-range (wrong-field kept-cost r) (c .wrong-field-field .result) (has-number (r .number) t) (length t) (c .wrong-field-field .ensures) (c .if-field-ne0 .taken);
       rows = refl;
-      continues = continues t (entry r false) (λ a. c .if-field-ne0 .taken (c .wrong-field-field .ensures ∙ none-wrong kept-cost r (a .ranges))) t refl;
+      continues = continues t (entry r false) (λ a. c .if-field-ne0 .taken (c .wrong-field-field .ensures ∙ range-right kept-cost r (a .ranges))) t refl;
     }
 
 pub returns-then-place-of-rows : need.returns-then-place-of-rows
@@ -50,9 +49,9 @@ ghost-self c =
     let h = not-has (r .number) t (c .as-slice-rows .result .now) (c .place-of .result) (c .place-of .ensures) (c .as-slice-rows .ensures) (c .if-place-of-rows .left) in (
       c .insert .ensures .most ∙ s .roomy,
       (
-        in-ranges-either free r t _ (c .insert .ensures .items) w (s .ranges),
+        every-kept row-in-range (λ x. x .deadline) free r t _ (c .insert .ensures .items) (eq-eqb (wrong-field kept-cost r) 0 w) (s .ranges),
         (
-          distinct-either free r t _ (c .insert .ensures .items) h (s .apart),
+          apart-kept same-number number-turns (λ x. x .deadline) free r t _ (c .insert .ensures .items) h (s .apart),
           (c .insert .ensures .ordered (s .ordered), tt),
         ),
       ),

@@ -1,21 +1,19 @@
 -- The answer by whether there is room and whether there is a plan; the course goes on by the main theorem.
 use mathlib.Core.Path.{_≡_, refl, sym, _∙_, ap, subst}
-use mathlib.Core.Bool.{true}
 use mathlib.Core.List.{List, _++_}
-use Prim.Native.Nat.{ℕ, _-_, _<_, _≤_}
+use Prim.Native.Nat.{ℕ, _-_}
 use native.Mathlib.Nat.{sub-zero}
 use native.Mathlib.Omega.{arith}
 use lib.ListN.{drop, length, replicate, take}
 use Rattle.analysis.specs.Laws.{Lawful}
 use Rattle.analysis.specs.declared.row.Mark.the-variants.{Above}
 use Rattle.analysis.specs.declared.row.Row.{Row}
-use Rattle.mapping.specs.Courses.{Limits, Mapped, issued, map-answer, mapping, no-room, unschedulable}
+use Rattle.mapping.specs.Courses.{Limits, Mapped, issued, map-answer, mapping}
 use Rattle.mapping.specs.Plans.{all-above, plan}
-use Rattle.mapping.specs.Replies.{Bounded, Reply, counts, last-task, reply, written}
+use Rattle.mapping.specs.Replies.{counts, last-task, reply, written}
 use Rattle.mapping.specs.Rows.{rows-of}
-use Rattle.mapping.specs.Sheets.{in-ranges}
-use Rattle.mapping.specs.declared.plan.PlanLine.{PlanLine}
-use Rattle.mapping.proofs.Mappings.{fresh-asked, fresh-marks, front-bounded, late, made, sheet-limits, short, taken-length}
+use Rattle.mapping.proofs.Entries.{sheet-limits}
+use Rattle.mapping.proofs.Mappings.{fresh-asked, fresh-marks, front-bounded, late, made, short, taken-length}
 use Rattle.mapping.proofs.Bounds.{plan-bounded}
 use Rattle.mapping.proofs.Course.{continues}
 use Rattle.std.specs.declared.option.Option.the-variants.{Some}
@@ -41,12 +39,11 @@ returns-then-room-rows g c =
 pub plan-rows-requires : need.plan-rows-requires
 plan-rows-requires g c κs =
     let rows = c .as-slice-rows .result .now in
-    let same = ap (λ (u : List Row). length u) (c .as-slice-rows .ensures) in
-    let few : length rows ≤ 128 = omega (arith, same, c .args .self .now .rows .within, c .args .self .now .roomy, c .args .self .now .rows .items .ok .0) in
+    let limits = subst Limits (sym (c .as-slice-rows .ensures)) (sheet-limits (c .args .self .now)) in
+    let few = limits .few in
     let fresh : take (length rows - 0) (replicate 128 Above) ≡ all-above rows = rw sub-zero (fresh-marks rows few) in
-    let P : List Row → Type 0 = λ u. in-ranges u ≡ true in
     record {
-      asked = fresh-asked rows (take (length rows - 0) (replicate 128 Above)) few (subst P (sym (c .as-slice-rows .ensures)) (c .args .self .now .ranges)) fresh;
+      asked = fresh-asked rows (take (length rows - 0) (replicate 128 Above)) limits fresh;
       fresh = fresh;
       room = few;
     }
@@ -54,9 +51,9 @@ plan-rows-requires g c κs =
 pub copy-lines-requires : need.copy-lines-requires
 copy-lines-requires g c κs =
     let same = ap (λ (u : List Row). length u) (c .as-slice-rows .ensures) in
-    let few : length (c .as-slice-rows .result .now) ≤ 128 = omega (arith, same, c .args .self .now .rows .within, c .args .self .now .roomy, c .args .self .now .rows .items .ok .0) in
+    let limits = sheet-limits (c .args .self .now) in
     let p = c .in-Some .ensures tt in
-    (omega (arith, p .1 .1, few), omega (arith, p .1 .1, c .if-room-rows .left))
+    (omega (arith, p .1 .1, same, limits .few), omega (arith, p .1 .1, c .if-room-rows .left))
 
 pub returns-in-None : need.returns-in-None
 returns-in-None g c =
@@ -85,13 +82,12 @@ returns-in-Some g c =
     let old = c .args .room .now in
     let n = length old in
     let same = ap (λ (u : List Row). length u) (c .as-slice-rows .ensures) in
-    let few : length (c .as-slice-rows .result .now) ≤ 128 = omega (arith, same, c .args .self .now .rows .within, c .args .self .now .roomy, c .args .self .now .rows .items .ok .0) in
     let p = c .in-Some .ensures tt in
     let k = c .in-Some .issued .lines in
     let ls = take k (c .plan-rows .last .lines) in
-    let long : length ls ≡ k = taken-length k (c .plan-rows .last .lines) (omega (arith, p .1 .1, few)) in
+    let limits = sheet-limits (c .args .self .now) in
+    let long : length ls ≡ k = taken-length k (c .plan-rows .last .lines) (omega (arith, p .1 .1, same, limits .few)) in
     let planned : plan v rule t ≡ Some ls = sym (ap (λ (u : List Row). plan v rule u) (c .as-slice-rows .ensures)) ∙ p .0 in
-    let limits : Limits t = sheet-limits t (omega (arith, same, few)) (c .args .self .now .ranges) (c .args .self .now .apart) in
     let is = made v rule n t ls (omega (arith, same, c .if-room-rows .left)) planned in
     record {
       answer =

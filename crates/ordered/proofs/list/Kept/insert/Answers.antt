@@ -1,14 +1,14 @@
 -- The vector's insertion at the place of the key is the insertion by key, which keeps the order.
 use mathlib.Core.Path.{_≡_, refl, ap}
-use mathlib.Core.Bool.{true, false, cond}
-use Prim.Native.Nat.{_≤_, _<_}
+use mathlib.Core.Bool.{true, false}
 use native.Mathlib.Omega.{arith}
 use lib.Dec.{ltb}
 use lib.ListN.{length}
-use Rattle.ordered.specs.Keys.{ascending, inserted-by, place-by}
-use Rattle.ordered.proofs.Insertion.{ascending-inserted, inserted-is, inserted-law, place-within}
+use Rattle.ordered.specs.Keys.{inserted-by, place-by}
+use Rattle.ordered.proofs.Insertion.{ascending-inserted, inserted-is, inserted-law}
+use Rattle.ordered.proofs.Testing.{first-within}
 use Rattle.std.proofs.shelf.Tests.{le-ltb, lt-ltb}
-use Rattle.std.specs.Of.Vec.{vec-items, vec-len}
+use Rattle.std.specs.Of.Vec.{vec-items}
 use Rattle.ordered.proofs.list.Kept.insert.Needs as need
 
 pub returns-then-self-len : need.returns-then-self-len
@@ -25,7 +25,7 @@ returns-then-self-len g c =
 
 pub insert-requires : need.insert-requires
 insert-requires g c κs =
-    let h = place-within (g .T·Keyed .key) (c .key .result) (c .as-slice .result .now) in
+    let h = first-within (λ y. ltb (c .key .result) (g .T·Keyed .key y)) (c .as-slice .result .now) in
     let n = ap length (c .as-slice .ensures) in
     omega (arith, c .place-at .ensures, c .args .self .now .items .ok .0)
 
