@@ -2,7 +2,6 @@
 ghost use mathlib.Core.Path.{_≡_};
 ghost use Prim.Native.Nat.{_≤_};
 ghost use lib.ListN.{length};
-ghost use Rattle.mapping.specs.Rows.{rows-of};
 ghost use Rattle.script.specs.Begun.{Begins, script-of, taken-of};
 ghost use Rattle.script.specs.Sessions.{ScriptLaw, standing, state-after};
 ghost use Rattle.script.specs.Turns.{room-after, taken-after, turn, turn-of, Within};
@@ -15,8 +14,8 @@ use crate::reader::Reader;
 use crate::session::Session;
 use crate::turn::Answered;
 use crate::workspace::Workspace;
+use analysis::Row;
 use mapping::PlanLine;
-use mapping::Sheet;
 use std::alloc::Global;
 
 /// The least bytes of a room for an answer.
@@ -44,11 +43,11 @@ impl<'a> Session<'a> {
         })
     }
 
-    /// The sheet, as the lines taken so far have made it.
-    pub fn sheet(&self) -> &Sheet
-        ensures { λ r. ⌜ rows-of (now r) ≡ standing (state-after (script-of (now (self .entry))) (taken-of (now (self .entry)))) ⌝ }
+    /// The rows that stand, as the lines taken so far have made them.
+    pub fn rows(&self) -> &[Row]
+        ensures { λ r. ⌜ now r ≡ standing (state-after (script-of (now (self .entry))) (taken-of (now (self .entry)))) ⌝ }
     {
-        &self.work.sheet
+        self.work.sheet.rows()
     }
 
     /// Takes the next line and writes its answer to the front of `room`; none where no line is left.

@@ -1,9 +1,0 @@
-use Rattle.mapping.specs.Rows.{rows-of}
-use Rattle.script.specs.Sessions.{standing, state-after}
-use Rattle.script.proofs.Sameness.{rows-from}
-use Rattle.script.proofs.session.Session.sheet.Needs as need
-
-pub returns : need.returns
-returns c =
-    let s = c .args .self .now in
-    rows-from (rows-of (s .work .sheet)) (standing (state-after (s .reader .script .now) (s .taken))) (s .rows)
