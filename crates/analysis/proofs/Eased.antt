@@ -11,6 +11,7 @@ use Rattle.std.specs.Holes.{removed}
 use Rattle.std.proofs.shelf.Lists.{getD-set-other, set-comm, set-set}
 use Rattle.std.proofs.shelf.Edits.{getD-removed-below, getD-removed-above}
 use Rattle.std.proofs.shelf.Tests.{cases-order, cases-bool, cond-both, cond-true, cond-false, le-leb, leb-true, ltb-true, ltb-false}
+use Rattle.analysis.specs.Comparisons.{LinearSafe, SectionsSafe}
 use Rattle.analysis.specs.Laws.{OnTimeBy, Bounds, Promotion, Withdrawal, OwnMark, place-after}
 use Rattle.analysis.specs.Questions.{Fair, row-at, no-row}
 use Rattle.analysis.specs.Responses.{IsResponse, LeastSolution, Solves, blocking, demand-above, exact, interference, linear, response, sections, workload}
@@ -183,3 +184,14 @@ linear-withdrawal t m i k w q l ne a e =
 
 pub linear-own : OwnMark linear
 linear-own t m i x q = rw (set-set m i x Below)
+
+-- the exact test finds no greater response
+pub linear-safe : LinearSafe
+linear-safe t m i w q e =
+    let s = linear-solves t m i w e in
+    let c = row-at t i .cost in
+    least-by (λ u. 0 + (c + interference t m i u)) (rises 0 c t (set m i Below) (costs q)) (row-at t i .deadline) w (omega (arith, costs q)) (s .1)
+    (omega (arith, demands-mono t (set m i Below) w (row-at t i .deadline) (s .1)))
+
+pub sections-safe : SectionsSafe
+sections-safe t m i w q e = eased (blocking t m i) 0 t t m m i i w (costs q) refl (λ h. omega arith) e

@@ -4,3 +4,4 @@ pub mod Laws
 pub mod Answers
 pub mod Responses
 pub mod Choices
+pub mod Comparisons

@@ -22,6 +22,7 @@ pub use exact::ExactEq;
 pub use exact::ExactPartialEq;
 pub use keys::RowKeyed;
 pub use laws::activations_round_up;
+pub use laws::exact_is_least;
 pub use linear::Linear;
 pub use linear::LinearAnalysis;
 pub use linear::LinearDebug;
@@ -51,3 +52,6 @@ pub use sections::SectionsAnalysis;
 pub use sections::SectionsDebug;
 pub use sections::SectionsEq;
 pub use sections::SectionsPartialEq;
+
+#[cfg(test)]
+mod tests;

@@ -1,8 +1,8 @@
 -- The layers keep the four laws of the analysis below them. Assumes nothing.
-use mathlib.Core.Path.{_≡_, sym, ap, _∙_}
+use mathlib.Core.Path.{_≡_, refl, sym, ap, _∙_}
 use mathlib.Core.Logic.{inl, inr}
-use mathlib.Core.List.{List, map}
-use Prim.Native.Nat.{ℕ, suc, _-_, _*_, _≤_, _<_}
+use mathlib.Core.List.{List, [], _∷_, map}
+use Prim.Native.Nat.{ℕ, suc, _+_, _-_, _*_, _≤_, _<_, min}
 use native.Mathlib.Omega.{arith}
 use lib.Dec.{leb}
 use lib.ListN.{length, set, take, drop}
@@ -104,3 +104,19 @@ pub charged-answer : (s : ℕ) (v : Meaning) (t u : List Row) (m : List Mark) (i
     a ≡ answer v u m i → a ≡ answer (charged s v) t m i
 charged-answer s v t u m i a q e h =
     (rw e at h ∙ fair-answer v (map (raised s) t) m i (raised-fair s q)) ∙ sym (fair-answer (charged s v) t m i q)
+
+abbrev at-cost : Row → ℕ → Row
+at-cost r n = record { number = r .number; cost = n; period = r .period; deadline = r .deadline; section = r .section }
+
+-- with no charge the rows stay as they are
+raised-none : (t : List Row) → ((k : ℕ) → k < length t → row-at t k .cost ≤ asked-cost) → t ≡ map (raised 0) t
+raised-none [] h = refl
+raised-none (r ∷ t) h =
+    let c : r .cost ≡ min (r .cost + 0) asked-cost = omega (arith, h 0 (omega arith)) in
+    ap (λ (n : ℕ). at-cost r n ∷ t) c
+    ∙ ap (λ (l : List Row). raised 0 r ∷ l) (raised-none t (λ k l. h (suc k) (omega arith)))
+
+pub uncharged-answer : (s : ℕ) (v : Meaning) (t : List Row) (m : List Mark) (i : ℕ) (a : Answer) → s ≡ 0 → Fair t m i →
+    a ≡ answer v t m i → a ≡ answer (charged s v) t m i
+uncharged-answer s v t m i a z q h =
+    charged-answer s v t t m i a q (raised-none t (λ k l. q .ranges k l .cost-most) ∙ ap (λ (n : ℕ). map (raised n) t) (sym z)) h

@@ -34,3 +34,6 @@ pub use ticks::Ticks;
 pub use ticks::TicksDebug;
 pub use ticks::TicksEq;
 pub use ticks::TicksPartialEq;
+
+#[cfg(test)]
+mod tests;

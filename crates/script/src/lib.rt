@@ -31,3 +31,6 @@ pub use output::answers;
 pub use reader::Reader;
 pub use session::Session;
 pub use turn::Answered;
+
+#[cfg(test)]
+mod tests;
