@@ -11,3 +11,4 @@ pub mod Coursing
 pub mod Taking
 pub mod Keeping
 pub mod Writing
+pub mod Betweens

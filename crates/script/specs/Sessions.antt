@@ -2,14 +2,14 @@
 use mathlib.Core.Path.{_≡_}
 use mathlib.Core.List.{List, [], _∷_, _++_}
 use mathlib.Core.Bool.{Bool, true, false, cond}
-use Prim.Native.Nat.{ℕ, suc}
+use Prim.Native.Nat.{ℕ, suc, _<_}
 use lib.Dec.{leb, ltb}
 use lib.ListN.{length, take, drop}
 use Rattle.analysis.specs.declared.choice.Choice.{Choice}
 use Rattle.analysis.specs.declared.row.Row.{Row}
 use Rattle.layers.specs.Outcomes.{add-outcome, after-adding, setting}
 use Rattle.layers.specs.Outcomes as layer-outcome
-use Rattle.layers.specs.Piles.{Pile, meaning-of}
+use Rattle.layers.specs.Piles.{Alike, Pile, meaning-of}
 use Rattle.layers.specs.Piles as pile
 use Rattle.layers.specs.declared.pair.Pair.{Pair}
 use Rattle.mapping.specs.Courses.{Course, CourseLaw, Event, Mapped, issued, map-answer, no-room, table, unschedulable}
@@ -172,3 +172,22 @@ output script = cond (ltb 65536 (length script)) (refusal-text 0 0 13) (answers-
 pub record ScriptLaw (script : List ℕ) (k : ℕ) : Type 0 where
   pub course : Course (state-after script k .course)
   pub law : CourseLaw (state-after script k .course)
+
+-- ---- what is true between two lines of a script
+
+-- what is read of a line, where there is one
+abbrev pub read-of : Option (List ℕ) → Option Read
+read-of None = None
+read-of (Some l) = Some (reading-of l)
+
+-- the line of a script after the first k says x, and p is the reply to it
+pub record LineAt (script : List ℕ) (k : ℕ) (x : Said) (p : Reply) : Type 0 where
+  pub reads : read-of (nth (lines-of script) k) ≡ Some (says x)
+  pub replies : reply-at script k ≡ Some p
+
+-- between a line that was answered with a plan and a later one that is unschedulable under an alike pile, a row line was accepted
+abbrev pub RowBetween : List ℕ → Type 0
+RowBetween script =
+    (i j : ℕ) (a b : Choice) (rule other : Rule) (ls : List PlanLine) → i < j → LineAt script i (said.mapping a rule) (planned ls) →
+    LineAt script j (said.mapping b other) (by-mapping unschedulable) → Alike (pile-of (state-after script i) a) (pile-of (state-after script j) b) →
+    (k : ℕ) × ((i < k) × ((k < j) × ((r : Row) × LineAt script k (said.row r) silent)))

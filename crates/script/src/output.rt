@@ -7,7 +7,7 @@ ghost use lib.ListN.{length, take};
 ghost use Rattle.script.specs.Begun.{script-of, taken-of};
 ghost use Rattle.script.specs.Lines.{lines-of};
 ghost use Rattle.script.specs.Refusals.{refusal-of};
-ghost use Rattle.script.specs.Sessions.{ScriptLaw, answers-from, output, start};
+ghost use Rattle.script.specs.Sessions.{RowBetween, ScriptLaw, answers-from, output, start};
 ghost use Rattle.script.specs.Answers.{refusal-text};
 ghost use Rattle.script.specs.Works.{Appends};
 ghost use Rattle.std.specs.Of.Vec.{vec-items};
@@ -77,6 +77,7 @@ fn refuse_script(heap: Global, fault: Fault) -> Result<Vec<u8>, AllocError>
 pub fn answers(heap: Global, script: &[u8]) -> Result<Vec<u8>, AllocError>
     ensures text { λ r. ⌜ made r (λ v. vec-items v ≡ output (now (script .entry))) ⌝ }
     ensures course { λ _. ⌜ ((k : ℕ) → ScriptLaw (now (script .entry)) k) ⌝ }
+    ensures between { λ _. ⌜ RowBetween (now (script .entry)) ⌝ }
 {
     match Session::begin(heap, script) {
         Ok(session) => answer_lines(heap, session),

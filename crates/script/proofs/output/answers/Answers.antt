@@ -15,6 +15,7 @@ use Rattle.script.specs.Refusals.{Refusal, refusal-of, reader}
 use Rattle.script.specs.Sessions.{answers-from, output, start}
 use Rattle.script.specs.declared.fault.BeginFault.{BeginFault}
 use Rattle.script.specs.declared.fault.BeginFault.the-variants.{Refused}
+use Rattle.script.proofs.Betweens.{row-between}
 use Rattle.script.proofs.Coursing.{script-law}
 use Rattle.script.proofs.output.answers.Needs as need
 
@@ -27,6 +28,7 @@ returns-in-Ok c =
     record {
       text = made-weaker (c .answer-lines .result) _ _ (λ v e. e ∙ whole) (c .answer-lines .ensures);
       course = script-law script;
+      between = row-between script;
     }
 
 pub returns-in-Refused : need.returns-in-Refused
@@ -40,7 +42,8 @@ returns-in-Refused c =
     record {
       text = made-weaker (c .refuse-script .result) _ _ (λ v e. e ∙ whole) (c .refuse-script .ensures);
       course = script-law script;
+      between = row-between script;
     }
 
 pub returns-in-Memory : need.returns-in-Memory
-returns-in-Memory c = record { text = tt; course = script-law (c .args .script .now) }
+returns-in-Memory c = record { text = tt; course = script-law (c .args .script .now); between = row-between (c .args .script .now) }
