@@ -1,5 +1,5 @@
 -- The layers keep the four laws of the analysis below them. Assumes nothing.
-use mathlib.Core.Path.{_≡_, refl, sym, ap, _∙_}
+use mathlib.Core.Path.{_≡_, refl, sym, ap, subst, _∙_}
 use mathlib.Core.Logic.{inl, inr}
 use mathlib.Core.List.{List, [], _∷_, map}
 use Prim.Native.Nat.{ℕ, suc, _+_, _-_, _*_, _≤_, _<_, min}
@@ -10,7 +10,10 @@ use Rattle.std.specs.Holes.{removed}
 use Rattle.std.proofs.shelf.Lists.{getD-map, length-map, map-append, take-map, drop-map}
 use Rattle.std.proofs.shelf.Ways.{tells}
 use Rattle.std.proofs.shelf.Tests.{cases-bool, cond-true, cond-false, le-leb, leb-true}
-use Rattle.analysis.specs.Answers.{Answer, answer}
+use Rattle.analysis.specs.Answers.{Answer, answer, answer-after, checked, judged}
+use Rattle.analysis.specs.declared.question.QuestionFault.{QuestionFault}
+use Rattle.std.specs.declared.result.Result.{Result}
+use Rattle.std.specs.declared.result.Result.the-variants.{Ok, Err}
 use Rattle.analysis.specs.Laws.{OnTimeBy, Bounds, Promotion, Withdrawal, OwnMark, place-after}
 use Rattle.layers.specs.Layers.{charged, kept-within, raised, with-margin}
 use Rattle.analysis.specs.Questions.{Fair, Meaning, no-row, row-at}
@@ -20,7 +23,7 @@ use Rattle.analysis.specs.declared.row.Mark.the-variants.{Below}
 use Rattle.analysis.specs.declared.row.Row.{Row}
 use Rattle.analysis.specs.declared.row.Verdict.{Verdict}
 use Rattle.analysis.specs.declared.row.Verdict.the-variants.{OnTime, Late}
-use Rattle.analysis.proofs.Checks.{fair-answer, right-range}
+use Rattle.analysis.proofs.Checks.{checked-fair, fair-answer, right-range}
 use Rattle.analysis.proofs.Eased.{row-removed}
 
 kept-on-time : (p d w : ℕ) (x : Verdict) → kept-within p d x ≡ OnTime w → (x ≡ OnTime w) × (w * 100 ≤ d * (100 - p))
@@ -116,7 +119,19 @@ raised-none (r ∷ t) h =
     ap (λ (n : ℕ). at-cost r n ∷ t) c
     ∙ ap (λ (l : List Row). raised 0 r ∷ l) (raised-none t (λ k l. h (suc k) (omega arith)))
 
-pub uncharged-answer : (s : ℕ) (v : Meaning) (t : List Row) (m : List Mark) (i : ℕ) (a : Answer) → s ≡ 0 → Fair t m i →
-    a ≡ answer v t m i → a ≡ answer (charged s v) t m i
-uncharged-answer s v t m i a z q h =
-    charged-answer s v t t m i a q (raised-none t (λ k l. q .ranges k l .cost-most) ∙ ap (λ (n : ℕ). map (raised n) t) (sym z)) h
+-- two analyses with the same verdict on a question that gets one answer it alike
+same-from : (v u : Meaning) (t : List Row) (m : List Mark) (i : ℕ) → (Fair t m i → v t m i ≡ u t m i) → (r : Result (Unit {0}) QuestionFault) →
+    r ≡ checked t m i → answer v t m i ≡ answer u t m i
+same-from v u t m i f (Ok x) e =
+    let q : Fair t m i = checked-fair t m i (Ok x) e in
+    fair-answer v t m i q ∙ ap judged (f q) ∙ sym (fair-answer u t m i q)
+same-from v u t m i f (Err x) e =
+    subst (λ (r : Result (Unit {0}) QuestionFault). answer-after r (v t m i) ≡ answer-after r (u t m i)) e refl
+
+pub same-answer : (v u : Meaning) (t : List Row) (m : List Mark) (i : ℕ) → (Fair t m i → v t m i ≡ u t m i) → answer v t m i ≡ answer u t m i
+same-answer v u t m i f = same-from v u t m i f (checked t m i) refl
+
+pub uncharged-answer : (s : ℕ) (v : Meaning) (t : List Row) (m : List Mark) (i : ℕ) → s ≡ 0 → answer v t m i ≡ answer (charged s v) t m i
+uncharged-answer s v t m i z =
+    same-answer v (charged s v) t m i
+    (λ q. ap (λ (u : List Row). v u m i) (raised-none t (λ k l. q .ranges k l .cost-most) ∙ ap (λ (n : ℕ). map (raised n) t) (sym z)))

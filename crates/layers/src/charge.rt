@@ -55,10 +55,10 @@ pub impl<A: Analysis> Analysis for Charge<A> as ChargeAnalysis {
     ghost verdict = { λ a. charged (a .ticks .value) (A·Analysis .verdict (a .below)) };
 
     fn ask(&self, table: &[Row], marks: &[Mark], place: usize) -> Result<Verdict, QuestionFault> {
-        check_question(table, marks, place)?;
         if self.ticks.value() == 0 {
             return self.below.ask(table, marks, place);
         }
+        check_question(table, marks, place)?;
         let rows = raise_all(table, self.ticks);
         self.below.ask(&rows[0..table.len()], marks, place)
     }

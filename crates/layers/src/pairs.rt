@@ -47,7 +47,8 @@ fn stands_above(number: u32, table: &[Row], marks: &[Mark], place: usize) -> boo
 
 /// Whether a pair puts a row marked above below the asked one.
 fn breaks(pairs: &[Pair], table: &[Row], marks: &[Mark], place: usize) -> bool
-    requires fair { ⌜ Fair (now table) (now marks) place ⌝ }
+    requires marked { ⌜ length (now marks) ≡ length (now table) ⌝ }
+    requires within { ⌜ place < length (now table) ⌝ }
     ensures { λ r. ⌜ r ≡ pair-broken (now (pairs .entry)) (row-at (now (table .entry)) place .number) (now (table .entry)) (set (now (marks .entry)) place Below) ⌝ }
 {
     for pair in pairs {
@@ -66,8 +67,11 @@ pub impl<A: Analysis> Analysis for Pairs<A> as PairsAnalysis {
         ensures late { λ r. ⌜ (Fair (now (table .entry)) (now (marks .entry)) place → Breaks (pairs-of (now (self .entry) .pairs)) (now (table .entry)) (now (marks .entry)) place → answer-of r ≡ judged Late) ⌝ }
         ensures passed { λ r. ⌜ (Fair (now (table .entry)) (now (marks .entry)) place → (Breaks (pairs-of (now (self .entry) .pairs)) (now (table .entry)) (now (marks .entry)) place → ⊥) → answer-of r ≡ judged (A·Analysis .verdict (now (self .entry) .below) (now (table .entry)) (now (marks .entry)) place)) ⌝ }
     {
-        check_question(table, marks, place)?;
+        if marks.len() != table.len() || place >= table.len() {
+            return Err(QuestionFault::Shape);
+        }
         if breaks(self.pairs.as_slice(), table, marks, place) {
+            check_question(table, marks, place)?;
             return Ok(Verdict::Late);
         }
         self.below.ask(table, marks, place)

@@ -3,7 +3,7 @@ ghost use mathlib.Core.Bool.{cond, true};
 ghost use mathlib.Core.List.{[]};
 ghost use mathlib.Core.Path.{_≡_};
 ghost use Prim.Native.Nat.{ℕ, _<_, _≤_};
-ghost use lib.Dec.{leb, ltb};
+ghost use lib.Dec.{ltb};
 ghost use lib.ListN.{length};
 ghost use Rattle.ordered.specs.Keys.{Inserted, ascending, inserted-by, place-by};
 ghost use Rattle.std.specs.Holes.{removed};
@@ -50,13 +50,6 @@ impl<T: Keyed> Kept<T> {
     {
         let items = Vec::with_capacity(heap, most)?;
         Ok(Kept { items, most })
-    }
-
-    /// Whether no further element has a place.
-    pub fn is_full(&self) -> bool
-        ensures { λ r. ⌜ r ≡ leb (now (self .entry) .most) (length (vec-items (now (self .entry) .items))) ⌝ }
-    {
-        self.items.len() >= self.most
     }
 
     /// The elements, by ascending key.

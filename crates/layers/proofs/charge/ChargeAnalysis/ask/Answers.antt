@@ -8,8 +8,8 @@ use Rattle.layers.proofs.charge.ChargeAnalysis.ask.Needs as need
 pub returns-then-value-eq0 : need.returns-then-value-eq0
 returns-then-value-eq0 g c =
     let z : c .args .self .now .ticks .value ≡ 0 = omega (arith, c .value .ensures .0, c .if-value-eq0 .taken) in
-    uncharged-answer (c .args .self .now .ticks .value) (g .A·Analysis .verdict (c .args .self .now .below)) (c .args .table .now) (c .args .marks .now)
-    (c .args .place) _ z (c .in-Continue-check-question .ensures tt .fair) (c .ask .ensures)
+    c .ask .ensures ∙ uncharged-answer (c .args .self .now .ticks .value) (g .A·Analysis .verdict (c .args .self .now .below)) (c .args .table .now)
+    (c .args .marks .now) (c .args .place) z
 
 pub returns : need.returns
 returns g c =

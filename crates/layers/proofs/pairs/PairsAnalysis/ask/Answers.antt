@@ -4,7 +4,7 @@ use mathlib.Core.Bool.{true, false}
 use mathlib.Core.List.{List}
 use lib.ListN.{set}
 use Rattle.std.proofs.shelf.Tests.{both-ways, cond-false, cond-true}
-use Rattle.analysis.specs.Answers.{answer-of, judged}
+use Rattle.analysis.specs.Answers.{judged}
 use Rattle.analysis.specs.Questions.{row-at}
 use Rattle.analysis.specs.declared.row.Mark.the-variants.{Below}
 use Rattle.analysis.specs.declared.row.Verdict.the-variants.{Late}
@@ -13,6 +13,7 @@ use Rattle.layers.specs.Layers.{pair-broken, with-pairs}
 use Rattle.layers.specs.Lists.{pairs-of}
 use Rattle.layers.specs.declared.pair.Pair.{Pair}
 use Rattle.layers.proofs.Breaking.{breaks-broken, broken-breaks}
+use Rattle.layers.proofs.Layered.{same-answer}
 use Rattle.layers.proofs.pairs.PairsAnalysis.ask.Needs as need
 
 pub returns-then-breaks : need.returns-then-breaks
@@ -39,13 +40,12 @@ returns g c =
     let t = c .args .table .now in
     let m = c .args .marks .now in
     let i = c .args .place in
-    let q = c .in-Continue-check-question .ensures tt .fair in
     let b : pair-broken ps (row-at t i .number) t (set m i Below) ≡ false =
     ap (λ (l : List Pair). pair-broken l (row-at t i .number) t (set m i Below)) (sym (c .as-slice .ensures)) ∙ sym (c .if-breaks .ensures tt) in
-    let a : answer-of (c .ask .result) ≡ judged (v t m i) = c .ask .ensures ∙ fair-answer v t m i q in
     record {
       answer =
-          a ∙ sym (fair-answer (with-pairs ps v) t m i q ∙ ap judged (cond-false (pair-broken ps (row-at t i .number) t (set m i Below)) Late (v t m i) b));
+          c .ask .ensures
+          ∙ same-answer v (with-pairs ps v) t m i (λ _. sym (cond-false (pair-broken ps (row-at t i .number) t (set m i Below)) Late (v t m i) b));
       late = λ _ k. absurd (both-ways (pair-broken ps (row-at t i .number) t (set m i Below)) b (breaks-broken ps t m i k));
-      passed = λ _ _. a;
+      passed = λ q _. c .ask .ensures ∙ fair-answer v t m i q;
     }
