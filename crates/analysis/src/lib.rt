@@ -1,4 +1,7 @@
 //! Rows, questions about them, what an analysis is, and three analyses.
+
+#![tactic(auto)]
+
 mod choice;
 mod exact;
 mod keys;

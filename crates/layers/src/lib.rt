@@ -1,4 +1,7 @@
 //! Charge, margin and pairs: each an analysis over any analysis.
+
+#![tactic(auto)]
+
 mod charge;
 mod fault;
 mod laws;

@@ -1,4 +1,7 @@
 //! Reads a script from standard input and writes its answers to standard output.
+
+#![tactic(auto)]
+
 use script::answers;
 use std::io;
 use std::io::{Read, Write};

@@ -19,7 +19,7 @@ use Rattle.mapping.proofs.Planning.{left_members}
 use Rattle.mapping.proofs.Tables.{wider}
 use Rattle.std.proofs.ByRecursion.{All-append, All-weaker}
 use Rattle.std.proofs.lemmas.Bool.{cases_Bool, cond-false, cond-true, eqb-true}
-use Rattle.std.specs.List.{AllByRecursion as All}
+use Rattle.std.specs.List.{AllByRecursion}
 
 -- the numbers of a candidate are small
 abbrev Small : Candidate → Type 0
@@ -29,7 +29,7 @@ length_lines : (task p : ℕ) (cs : List Candidate) → length (lines_from task 
 length_lines task p [] = refl
 length_lines task p (c ∷ cs) = ap suc (length_lines task (suc p) cs)
 
-lines_modest : (task p : ℕ) (cs : List Candidate) → task ≤ 128 → p + length cs ≤ 129 → All Small cs → All Modest (lines_from task p cs)
+lines_modest : (task p : ℕ) (cs : List Candidate) → task ≤ 128 → p + length cs ≤ 129 → AllByRecursion Small cs → AllByRecursion Modest (lines_from task p cs)
 lines_modest task p [] h l s = tt
 lines_modest task p (c ∷ cs) h l s = (
   record { task = h; place = omega arith; number = s.0.0; response = s.0.1 },
@@ -43,7 +43,7 @@ some_filled (c ∷ cs) f = omega arith
 -- as many lines as rows are left, each with small numbers
 record Rest (m : List Mark) (ls : List PlanLine) : Type 0 where
   count : length ls ≡ unplaced m
-  each : All Modest ls
+  each : AllByRecursion Modest ls
 
 module _ (v : Meaning) (law : Lawful v) (rule : Rule) (t : List Row) (limits : Limits t) where
   small : (m : List Mark) → length m ≡ length t → (c : Candidate) → Good v t m c → Small c
@@ -68,7 +68,7 @@ module _ (v : Meaning) (law : Lawful v) (rule : Rule) (t : List Row) (limits : L
       let cs : List Candidate = members rule (candidates v t m) in
       let left = left_members v rule t m in
       let some = some_filled cs f in
-      let smalls : All Small cs = All-weaker (Good v t m) Small (small m l) cs (members_good v rule t m) in
+      let smalls : AllByRecursion Small cs = All-weaker (Good v t m) Small (small m l) cs (members_good v rule t m) in
       let long : length (lines_from task 1 cs ++ ls) ≡ length cs + length ls =
       length-append (lines_from task 1 cs) ls ∙ ap (λ (n : ℕ). n + length ls) (length_lines task 1 cs)
       in

@@ -1,6 +1,6 @@
 -- The candidates of a step: each is one by the law, in sheet order, and all are there.
 use Rattle.std.proofs.Common.{◌≡◌, ℕ, zero, suc, ◌+◌, ◌<◌, true, eqb, List, [], ◌∷◌, ◌++◌, length, get_or, sym, refl, ap, ◌∙◌, subst, inl, inr, arith}
-use Rattle.std.specs.List.{AllByRecursion as All}
+use Rattle.std.specs.List.{AllByRecursion}
 use Rattle.std.proofs.lemmas.Bool.{eq-eqb, eqb-true, or_cases, or_left, or_right}
 use Rattle.analysis.specs.Questions.{Meaning, row_at}
 use Rattle.analysis.specs.declared.row.Mark.{Mark}
@@ -18,8 +18,8 @@ use Rattle.mapping.proofs.Pairs.{Pairs}
 
 head :
     (P : Candidate → Type 0) (k : ℕ) (r : Row) (x : Mark) (d : Verdict) (cs : List Candidate) →
-    (x ≡ Above → (w : ℕ) → d ≡ OnTime w → P (record { at = k; row = r; response = w })) → All P cs →
-    All P (if_unplaced x (if_on_time k r d) ++ cs)
+    (x ≡ Above → (w : ℕ) → d ≡ OnTime w → P (record { at = k; row = r; response = w })) → AllByRecursion P cs →
+    AllByRecursion P (if_unplaced x (if_on_time k r d) ++ cs)
 head P k r Above (OnTime w) cs f h = (f refl w refl, h)
 head P k r Above Late cs f h = h
 head P k r Below d cs f h = h
@@ -30,7 +30,7 @@ pub each_candidate :
     (j w : ℕ) → j < length t → get_or m j Below ≡ Above → ask (k + j) ≡ OnTime w →
     P (record { at = k + j; row = row_at t j; response = w })
     ) →
-    All P (candidates_from ask k t m)
+    AllByRecursion P (candidates_from ask k t m)
 each_candidate P ask k [] m f = tt
 each_candidate P ask k (r ∷ t) [] f = tt
 each_candidate P ask k (r ∷ t) (x ∷ m) f =
@@ -50,7 +50,7 @@ pub record Good (v : Meaning) (t : List Row) (m : List Mark) (c : Candidate) : T
   pub free : get_or m c.at Below ≡ Above
   pub verdict : v t m c.at ≡ OnTime c.response
 
-pub good_candidates : (v : Meaning) (t : List Row) (m : List Mark) → All (Good v t m) (candidates v t m)
+pub good_candidates : (v : Meaning) (t : List Row) (m : List Mark) → AllByRecursion (Good v t m) (candidates v t m)
 good_candidates v t m =
     each_candidate (Good v t m) (v t m) 0 t m
     (λ j w l e q.
@@ -68,7 +68,7 @@ abbrev pub Rising : List Candidate → Type 0
 Rising cs = Pairs (λ c d. c.at < d.at) cs
 
 rising_head :
-    (k : ℕ) (r : Row) (x : Mark) (d : Verdict) (cs : List Candidate) → All (λ c. k < c.at) cs → Rising cs →
+    (k : ℕ) (r : Row) (x : Mark) (d : Verdict) (cs : List Candidate) → AllByRecursion (λ c. k < c.at) cs → Rising cs →
     Rising (if_unplaced x (if_on_time k r d) ++ cs)
 rising_head k r Above (OnTime w) cs a h = (a, h)
 rising_head k r Above Late cs a h = h
@@ -91,7 +91,7 @@ pub good_candidate : (v : Meaning) (t : List Row) (m : List Mark) (c : Candidate
 good_candidate v t m c g = record { within = g.within; above = g.free; response = c.response; on_time = g.verdict }
 
 -- what holds of each candidate's place holds of a place that a candidate has
-pub at_place : (P : ℕ → Type 0) (i : ℕ) (cs : List Candidate) → All (λ c. P c.at) cs → has_place i cs ≡ true → P i
+pub at_place : (P : ℕ → Type 0) (i : ℕ) (cs : List Candidate) → AllByRecursion (λ c. P c.at) cs → has_place i cs ≡ true → P i
 at_place P i [] h e = let z : ◌≡◌ {A = ℕ} 0 1 = cc in absurd (omega arith)
 at_place P i (c ∷ cs) h e =
     elim (or_cases (eqb c.at i) (has_place i cs) e) [

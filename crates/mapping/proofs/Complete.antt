@@ -1,6 +1,6 @@
 -- Where some order has every row on time, there is a plan.
 use Rattle.std.proofs.Common.{◌≡◌, ℕ, zero, suc, ◌<◌, ◌≤◌, cond, eqb, List, [], ◌∷◌, length, get_or, Some, None, Option, sym, ◌∙◌, subst, arith}
-use Rattle.std.specs.List.{AllByRecursion as All}
+use Rattle.std.specs.List.{AllByRecursion}
 use Rattle.std.proofs.lemmas.Bool.{cond_both, eq-eqb, eqb-false}
 use Rattle.analysis.specs.Laws.{Lawful}
 use Rattle.analysis.specs.Questions.{Meaning}
@@ -30,7 +30,7 @@ given_before task (c ∷ cs) (Some ls) f g = tt
 
 -- placing members leaves fewer rows
 less :
-    (v : Meaning) (t : List Row) (m : List Mark) (cs : List Candidate) → Filled cs → All (Good v t m) cs → unplaced (placed cs m) < unplaced m
+    (v : Meaning) (t : List Row) (m : List Mark) (cs : List Candidate) → Filled cs → AllByRecursion (Good v t m) cs → unplaced (placed cs m) < unplaced m
 less v t m [] f h = absurd f
 less v t m (c ∷ cs) f h = less_unplaced (c ∷ cs) m c.at (own_places (c ∷ cs)).0 h.0.free
 

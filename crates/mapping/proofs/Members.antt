@@ -1,7 +1,7 @@
 -- The members of a task: the candidates that the rule takes with the lead.
 use Rattle.std.proofs.Common.{◌≡◌, ℕ, ◌/◌, ◌%◌, ◌<◌, ◌≤◌, min, Bool, true, false, cond, eqb, List, [], ◌∷◌, sym, refl, ap, ◌∙◌, subst, inl, inr, div-add-mod', arith}
 use native.Mathlib.Nat.{mod_self, mul-mod_left}
-use Rattle.std.specs.List.{AllByRecursion as All}
+use Rattle.std.specs.List.{AllByRecursion}
 use Rattle.std.proofs.ByRecursion.{All-weaker}
 use Rattle.std.proofs.lemmas.Bool.{cases_lt, cond_both, cond-true, eq-eqb, eqb-true, or_cases, or_left, or_right}
 use Rattle.analysis.specs.Questions.{Meaning, row_at}
@@ -18,10 +18,10 @@ use Rattle.mapping.proofs.Candidates.{Good, Rising, at_place, good_candidate, go
 -- ---- what is kept of candidates
 
 all_kept :
-    (P : Candidate → Type 0) (goes : ℕ → Bool) (cs : List Candidate) → All (λ c. goes c.row.period ≡ true → P c) cs → All P (kept goes cs)
+    (P : Candidate → Type 0) (goes : ℕ → Bool) (cs : List Candidate) → AllByRecursion (λ c. goes c.row.period ≡ true → P c) cs → AllByRecursion P (kept goes cs)
 all_kept P goes [] h = tt
 all_kept P goes (c ∷ cs) h =
-    cond_both (goes c.row.period) (c ∷ kept goes cs) (kept goes cs) (All P) (λ e. (h.0 e, all_kept P goes cs h.1))
+    cond_both (goes c.row.period) (c ∷ kept goes cs) (kept goes cs) (AllByRecursion P) (λ e. (h.0 e, all_kept P goes cs h.1))
     (λ e. all_kept P goes cs h.1)
 
 rising_kept : (goes : ℕ → Bool) (cs : List Candidate) → Rising cs → Rising (kept goes cs)
@@ -35,7 +35,7 @@ rising_kept goes (c ∷ cs) h =
     ))
     (λ e. rising_kept goes cs h.1)
 
-all_members : (P : Candidate → Type 0) (rule : Rule) (cs : List Candidate) → All P cs → All P (members rule cs)
+all_members : (P : Candidate → Type 0) (rule : Rule) (cs : List Candidate) → AllByRecursion P cs → AllByRecursion P (members rule cs)
 all_members P rule [] h = tt
 all_members P rule (c ∷ cs) h =
     let goes : ℕ → Bool = takes rule (last_of c cs).row.period (c ∷ cs) in
@@ -46,7 +46,7 @@ rising_members rule [] h = tt
 rising_members rule (c ∷ cs) h = rising_kept (takes rule (last_of c cs).row.period (c ∷ cs)) (c ∷ cs) h
 
 module _ (v : Meaning) (rule : Rule) (t : List Row) (m : List Mark) where
-  pub members_good : All (Good v t m) (members rule (candidates v t m))
+  pub members_good : AllByRecursion (Good v t m) (members rule (candidates v t m))
   members_good = all_members (Good v t m) rule (candidates v t m) (good_candidates v t m)
 
   pub members_rising : Rising (members rule (candidates v t m))
@@ -61,7 +61,7 @@ pub to_mod : (p q : ℕ) → Multiple p q → p % q ≡ 0
 to_mod p q h = ap (λ x. x % q) h.1 ∙ mul-mod_left h.0 q
 
 -- what holds of p and of each candidate's period holds of the shortest divisor
-divisor_is : (P : ℕ → Type 0) (p : ℕ) (cs : List Candidate) → P p → All (λ c. p % c.row.period ≡ 0 → P c.row.period) cs → P (shortest_divisor p cs)
+divisor_is : (P : ℕ → Type 0) (p : ℕ) (cs : List Candidate) → P p → AllByRecursion (λ c. p % c.row.period ≡ 0 → P c.row.period) cs → P (shortest_divisor p cs)
 divisor_is P p [] h a = h
 divisor_is P p (c ∷ cs) h a =
     let q : ℕ = c.row.period in
@@ -77,7 +77,7 @@ divisor_is P p (c ∷ cs) h a =
 divides : (p : ℕ) (cs : List Candidate) → p % shortest_divisor p cs ≡ 0
 divides p cs = divisor_is (λ x. p % x ≡ 0) p cs (mod_self p) (every (λ c. p % c.row.period ≡ 0 → p % c.row.period ≡ 0) (λ c e. e) cs)
 
-divisor_least : (p : ℕ) (cs : List Candidate) → All (λ c. p % c.row.period ≡ 0 → shortest_divisor p cs ≤ c.row.period) cs
+divisor_least : (p : ℕ) (cs : List Candidate) → AllByRecursion (λ c. p % c.row.period ≡ 0 → shortest_divisor p cs ≤ c.row.period) cs
 divisor_least p [] = tt
 divisor_least p (c ∷ cs) =
     let q : ℕ = c.row.period in
@@ -122,14 +122,14 @@ some_member v rule t m i c = members_filled rule (candidates v t m) (has_filled 
 
 -- ---- the lead
 
-last_in : (P : Candidate → Type 0) (c : Candidate) (cs : List Candidate) → All P (c ∷ cs) → P (last_of c cs)
+last_in : (P : Candidate → Type 0) (c : Candidate) (cs : List Candidate) → AllByRecursion P (c ∷ cs) → P (last_of c cs)
 last_in P c [] h = h.0
 last_in P c (d ∷ ds) h = last_in P d ds h.1
 
-last_most : (c : Candidate) (cs : List Candidate) → Rising (c ∷ cs) → All (λ d. d.at ≤ (last_of c cs).at) (c ∷ cs)
+last_most : (c : Candidate) (cs : List Candidate) → Rising (c ∷ cs) → AllByRecursion (λ d. d.at ≤ (last_of c cs).at) (c ∷ cs)
 last_most c [] r = (omega arith, tt)
 last_most c (d ∷ ds) r =
-    let h : All (λ x. x.at ≤ (last_of d ds).at) (d ∷ ds) = last_most d ds r.1 in
+    let h : AllByRecursion (λ x. x.at ≤ (last_of d ds).at) (d ∷ ds) = last_most d ds r.1 in
     (omega (arith, r.0.0, h.0), h)
 
 -- ---- the task
@@ -145,7 +145,7 @@ shortest_same v t m p a b x y =
 module _ (v : Meaning) (rule : Rule) (t : List Row) (m : List Mark) where
   -- what is kept has its place among the candidates, and goes
   kept_goes :
-      (goes : ℕ → Bool) (i : ℕ) (cs : List Candidate) → All (Good v t m) cs → has_place i (kept goes cs) ≡ true →
+      (goes : ℕ → Bool) (i : ℕ) (cs : List Candidate) → AllByRecursion (Good v t m) cs → has_place i (kept goes cs) ≡ true →
       IsCandidate v t m i × (goes (row_at t i).period ≡ true)
   kept_goes goes i cs g e =
       at_place (λ j. IsCandidate v t m j × (goes (row_at t j).period ≡ true)) i (kept goes cs)
@@ -157,7 +157,7 @@ module _ (v : Meaning) (rule : Rule) (t : List Row) (m : List Mark) where
       e
 
   goes_kept :
-      (goes : ℕ → Bool) (i : ℕ) (cs : List Candidate) → All (Good v t m) cs → has_place i cs ≡ true → goes (row_at t i).period ≡ true →
+      (goes : ℕ → Bool) (i : ℕ) (cs : List Candidate) → AllByRecursion (Good v t m) cs → has_place i cs ≡ true → goes (row_at t i).period ≡ true →
       has_place i (kept goes cs) ≡ true
   goes_kept goes i [] g e q = e
   goes_kept goes i (c ∷ cs) g e q =
@@ -174,7 +174,7 @@ module _ (v : Meaning) (rule : Rule) (t : List Row) (m : List Mark) where
             (λ p. k)
       ]
 
-  module _ (cs : List Candidate) (g : All (Good v t m) cs) (full : (i : ℕ) → IsCandidate v t m i → has_place i cs ≡ true) where
+  module _ (cs : List Candidate) (g : AllByRecursion (Good v t m) cs) (full : (i : ℕ) → IsCandidate v t m i → has_place i cs ≡ true) where
     shortest : (i : ℕ) → IsCandidate v t m i → let p = (row_at t i).period in ShortestDivisor v t m p (shortest_divisor p cs)
     shortest i c =
         let p : ℕ = (row_at t i).period in
@@ -186,7 +186,7 @@ module _ (v : Meaning) (rule : Rule) (t : List Row) (m : List Mark) where
         cs
         g)
         in
-        let least : All (λ c. p % (row_at t c.at).period ≡ 0 → q ≤ (row_at t c.at).period) cs =
+        let least : AllByRecursion (λ c. p % (row_at t c.at).period ≡ 0 → q ≤ (row_at t c.at).period) cs =
         all_both (Good v t m) (λ c. p % c.row.period ≡ 0 → q ≤ c.row.period) (λ c. p % (row_at t c.at).period ≡ 0 → q ≤ (row_at t c.at).period)
         (λ c h f. subst (λ (r : Row). p % r.period ≡ 0 → q ≤ r.period) (sym h.is) f)
         cs
@@ -218,7 +218,7 @@ module _ (v : Meaning) (rule : Rule) (t : List Row) (m : List Mark) where
         eq-eqb (p % q) 0 (to_mod p q (subst (Multiple p) s h.1.1))
 
   task_of :
-      (cs : List Candidate) → All (Good v t m) cs → Rising cs → ((i : ℕ) → IsCandidate v t m i → has_place i cs ≡ true) → Filled (members rule cs) →
+      (cs : List Candidate) → AllByRecursion (Good v t m) cs → Rising cs → ((i : ℕ) → IsCandidate v t m i → has_place i cs ≡ true) → Filled (members rule cs) →
       IsTask v rule t m (λ i. has_place i (members rule cs) ≡ true)
   task_of [] g r full f = absurd f
   task_of (c ∷ cs) g r full f =

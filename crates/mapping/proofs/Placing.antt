@@ -1,6 +1,6 @@
 -- The marks as members are placed.
 use Rattle.std.proofs.Common.{◌≡◌, ℕ, zero, suc, ◌+◌, ◌<◌, ◌≤◌, Bool, true, false, cond, eqb, List, [], ◌∷◌, length, get_or, sym, refl, ap, ◌∙◌, subst, arith}
-use Rattle.std.specs.List.{AllByRecursion as All}
+use Rattle.std.specs.List.{AllByRecursion}
 use Rattle.std.proofs.ByRecursion.{All-weaker}
 use Rattle.std.proofs.lemmas.Bool.{eq-eqb, or_left, or_right}
 use Rattle.analysis.specs.declared.row.Mark.{Mark}
@@ -116,7 +116,7 @@ less_unplaced cs m k h e = let z : k ≡ 0 + k = omega arith in less_free cs 0 m
 
 -- ---- each member's place is a member's
 
-pub own_places : (cs : List Candidate) → All (λ c. has_place c.at cs ≡ true) cs
+pub own_places : (cs : List Candidate) → AllByRecursion (λ c. has_place c.at cs ≡ true) cs
 own_places [] = tt
 own_places (c ∷ cs) = (
   or_left (eqb c.at c.at) (has_place c.at cs) (eq-eqb c.at c.at refl),

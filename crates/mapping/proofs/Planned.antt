@@ -1,6 +1,6 @@
 -- What the plan from a task on is, by the steps that define it.
 use Rattle.std.proofs.Common.{◌≡◌, ℕ, zero, suc, ◌<◌, ◌≤◌, true, false, eqb, ◌⊎◌, ◌↔◌, List, [], ◌∷◌, ◌++◌, length, get_or, Some, None, Option, sym, refl, ap, ◌∙◌, subst, inl, inr, arith}
-use Rattle.std.specs.List.{AllByRecursion as All}
+use Rattle.std.specs.List.{AllByRecursion}
 use Rattle.std.proofs.ByRecursion.{All-append, All-weaker}
 use Rattle.std.proofs.lemmas.List.{ext_get_or}
 use Rattle.std.proofs.lemmas.Bool.{both_ways, cases_Bool, eqb-true, cond-true, cond-false}
@@ -36,7 +36,7 @@ pub record Marked (t : List Row) (m : List Mark) (ls : List PlanLine) (k : ℕ) 
 
 pub record Planned (v : Meaning) (rule : Rule) (t : List Row) (m : List Mark) (task : ℕ) (ls : List PlanLine) : Type 0 where
   pub named : (k : ℕ) → Open t m k → Names ls (row_at t k).number
-  pub only : All (λ l. (k : ℕ) × ((k < length t) × ((get_or m k Below ≡ Above) × ((row_at t k).number ≡ l.number)))) ls
+  pub only : AllByRecursion (λ l. (k : ℕ) × ((k < length t) × ((get_or m k Below ≡ Above) × ((row_at t k).number ≡ l.number)))) ls
   pub unique : Unique ls
   pub begins : Begins task ls
   pub from_task : (k : ℕ) → Open t m k → task ≤ (line_at ls t k).task
@@ -89,7 +89,7 @@ planned_none v rule t m task h =
 
 module _
     (v : Meaning) (rule : Rule) (t : List Row) (s : Sound t) (m : List Mark) (lm : length m ≡ length t) (task : ℕ) (cs : List Candidate)
-    (g : All (Good v t m) cs) (r : Rising cs) (f : Filled cs) (law : IsTask v rule t m (λ i. has_place i cs ≡ true)) (ls : List PlanLine)
+    (g : AllByRecursion (Good v t m) cs) (r : Rising cs) (f : Filled cs) (law : IsTask v rule t m (λ i. has_place i cs ≡ true)) (ls : List PlanLine)
     (ih : Planned v rule t (placed cs m) (suc task) ls)
   where
     abbrev all : List PlanLine
@@ -144,7 +144,7 @@ module _
           | inr h ↦ names_right (lines_from task 1 cs) ls (row_at t k).number (ih.named k h.opened)
         ]
 
-    more_only : All (λ l. (k : ℕ) × ((k < length t) × ((get_or m k Below ≡ Above) × ((row_at t k).number ≡ l.number)))) all
+    more_only : AllByRecursion (λ l. (k : ℕ) × ((k < length t) × ((get_or m k Below ≡ Above) × ((row_at t k).number ≡ l.number)))) all
     more_only =
         All-append _ (lines_from task 1 cs) ls (lines_only v t m s.apart task 1 cs g)
         (All-weaker _ _ (λ l q. (q.0, (q.1.0, ((still_free cs m q.0 q.1.1.0).1, q.1.1.1)))) ls ih.only)

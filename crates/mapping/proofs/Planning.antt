@@ -14,12 +14,12 @@ use Rattle.mapping.specs.declared.plan.Rule.{Rule}
 use Rattle.mapping.specs.declared.round.Candidate.{Candidate}
 use Rattle.mapping.proofs.Candidates.{each_candidate}
 use Rattle.mapping.proofs.Placements.{both_below, placed_none, placed_skip}
-use Rattle.std.specs.List.{AllByRecursion as All}
+use Rattle.std.specs.List.{AllByRecursion}
 use Rattle.std.proofs.lemmas.Bool.{cond-false, cond-true, eq-eqb, ne_eqb, or_from}
 
 -- ---- each member takes one row off the unplaced
 
-kept_place : (f : ℕ → Bool) (k : ℕ) (cs : List Candidate) → All (λ c. suc k ≤ c.at) cs → has_place k (kept f cs) ≡ false
+kept_place : (f : ℕ → Bool) (k : ℕ) (cs : List Candidate) → AllByRecursion (λ c. suc k ≤ c.at) cs → has_place k (kept f cs) ≡ false
 kept_place f k [] e = refl
 kept_place f k (c ∷ cs) e =
     let more = kept_place f k cs e.1 in

@@ -1,6 +1,6 @@
 -- The tables of a course: few rows, in range, with numbers of their own, in ascending deadline.
 use Rattle.std.proofs.Common.{◌≡◌, ℕ, suc, ◌<◌, ◌≤◌, true, false, cond, eqb, ltb, List, [], ◌∷◌, length, sym, refl, ap, arith}
-use Rattle.std.specs.List.{AllByRecursion as All}
+use Rattle.std.specs.List.{AllByRecursion}
 use Rattle.std.proofs.ByRecursion.{All-get_or, All-from_get_or, All-weaker}
 use Rattle.std.proofs.lemmas.Bool.Decides.{nat_tests}
 use Rattle.std.proofs.lemmas.Bool.{eqb-false, cond_both, ltb-false, ltb-true}
@@ -15,7 +15,7 @@ use Rattle.mapping.proofs.Pairs.{Pairs, all_both, same_index}
 
 -- no row has the number
 abbrev pub Absent : ℕ → List Row → Type 0
-Absent n t = All (λ s. s.number ≡ n → ⊥) t
+Absent n t = AllByRecursion (λ s. s.number ≡ n → ⊥) t
 
 -- each row has a number of its own
 abbrev pub Apart : List Row → Type 0
@@ -27,7 +27,7 @@ Ascending t = Pairs (λ r s. r.deadline ≤ s.deadline) t
 
 pub record Sound (t : List Row) : Type 0 where
   pub few : length t ≤ 128
-  pub ranges : All (InRange kept_cost) t
+  pub ranges : AllByRecursion (InRange kept_cost) t
   pub apart : Apart t
   pub ascending : Ascending t
 
@@ -72,10 +72,10 @@ sound_new = record { few = omega arith; ranges = tt; apart = tt; ascending = tt 
 
 -- ---- after an entry
 
-pub all_entered : (P : Row → Type 0) (r : Row) (t : List Row) → P r → All P t → All P (entered r t)
+pub all_entered : (P : Row → Type 0) (r : Row) (t : List Row) → P r → AllByRecursion P t → AllByRecursion P (entered r t)
 all_entered P r [] p h = (p, tt)
 all_entered P r (s ∷ t) p h =
-    elim (ltb r.deadline s.deadline) as (λ b. All P (cond b (r ∷ s ∷ t) (s ∷ entered r t))) [
+    elim (ltb r.deadline s.deadline) as (λ b. AllByRecursion P (cond b (r ∷ s ∷ t) (s ∷ entered r t))) [
       | true ↦ (p, h)
       | false ↦ (h.0, all_entered P r t p h.1)
     ]
@@ -91,13 +91,13 @@ length_entered r (s ∷ t) =
 -- the new row before those of a later deadline and after the others
 pub pairs_entered :
     (R : Row → Row → Type 0) (r : Row) (t : List Row) → Ascending t →
-    All (λ s. (r.deadline < s.deadline → R r s) × (s.deadline ≤ r.deadline → R s r)) t → Pairs R t → Pairs R (entered r t)
+    AllByRecursion (λ s. (r.deadline < s.deadline → R r s) × (s.deadline ≤ r.deadline → R s r)) t → Pairs R t → Pairs R (entered r t)
 pairs_entered R r [] a f h = (tt, tt)
 pairs_entered R r (s ∷ t) a f h =
     cond_both (ltb r.deadline s.deadline) (r ∷ s ∷ t) (s ∷ entered r t) (Pairs R)
     (λ e.
     let l : r.deadline < s.deadline = ltb-true r.deadline s.deadline e in
-    let later : All (λ x. s.deadline ≤ x.deadline) t = a.0 in (
+    let later : AllByRecursion (λ x. s.deadline ≤ x.deadline) t = a.0 in (
       (
         f.0.0 l,
         all_both (λ x. s.deadline ≤ x.deadline) (λ x. (r.deadline < x.deadline → R r x) × (x.deadline ≤ r.deadline → R x r)) (R r)
@@ -132,10 +132,10 @@ sound_entered t r s a =
 
 -- ---- after a strike
 
-pub all_struck : (P : Row → Type 0) (n : ℕ) (t : List Row) → All (λ s. (s.number ≡ n → ⊥) → P s) t → All P (struck n t)
+pub all_struck : (P : Row → Type 0) (n : ℕ) (t : List Row) → AllByRecursion (λ s. (s.number ≡ n → ⊥) → P s) t → AllByRecursion P (struck n t)
 all_struck P n [] h = tt
 all_struck P n (s ∷ t) h =
-    cond_both (eqb s.number n) (struck n t) (s ∷ struck n t) (All P) (λ e. all_struck P n t h.1)
+    cond_both (eqb s.number n) (struck n t) (s ∷ struck n t) (AllByRecursion P) (λ e. all_struck P n t h.1)
     (λ e. (h.0 (eqb-false s.number n e), all_struck P n t h.1))
 
 length_struck : (n : ℕ) (t : List Row) → length (struck n t) ≤ length t

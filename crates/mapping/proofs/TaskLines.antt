@@ -1,6 +1,6 @@
 -- The lines of a task's members.
 use Rattle.std.proofs.Common.{◌≡◌, ℕ, suc, ◌<◌, ◌≤◌, true, false, eqb, ◌⊎◌, List, [], ◌∷◌, ◌++◌, length, get_or, sym, refl, ap, ◌∙◌, inl, inr, arith}
-use Rattle.std.specs.List.{AllByRecursion as All}
+use Rattle.std.specs.List.{AllByRecursion}
 use Rattle.std.proofs.ByRecursion.{All-append}
 use Rattle.std.proofs.lemmas.Bool.{cases_eq, cond-false, cond-true, eq-eqb, eqb-true, eqb-false, ne_eqb, or_cases, or_parts}
 use Rattle.analysis.specs.Questions.{Meaning, row_at}
@@ -23,7 +23,7 @@ First [] n = ⊥
 First (c ∷ cs) n = (c.row.number ≡ n) ⊎ ((c.row.number ≡ n → ⊥) × First cs n)
 
 abbrev pub Missing : List Candidate → ℕ → Type 0
-Missing cs n = All (λ c. c.row.number ≡ n → ⊥) cs
+Missing cs n = AllByRecursion (λ c. c.row.number ≡ n → ⊥) cs
 
 module _ (task : ℕ) (ls : List PlanLine) where
   abbrev line : ℕ → List Candidate → ℕ → PlanLine
@@ -69,7 +69,7 @@ module _ (v : Meaning) (t : List Row) (m : List Mark) (a : Apart t) where
   member_number c k g e = ap (λ (r : Row). r.number) (sym g.is) ∙ ap (λ n. (row_at t n).number) e
 
   pub first_member :
-      (cs : List Candidate) (k : ℕ) → All (Good v t m) cs → k < length t → has_place k cs ≡ true → First cs (row_at t k).number
+      (cs : List Candidate) (k : ℕ) → AllByRecursion (Good v t m) cs → k < length t → has_place k cs ≡ true → First cs (row_at t k).number
   first_member [] k g l h = let z : ◌≡◌ {A = ℕ} 0 1 = cc in omega arith
   first_member (c ∷ cs) k g l h =
       elim (cases_eq c.row.number (row_at t k).number) [
@@ -82,7 +82,7 @@ module _ (v : Meaning) (t : List Row) (m : List Mark) (a : Apart t) where
       ]
 
   pub missing_member :
-      (cs : List Candidate) (k : ℕ) → All (Good v t m) cs → k < length t → has_place k cs ≡ false → Missing cs (row_at t k).number
+      (cs : List Candidate) (k : ℕ) → AllByRecursion (Good v t m) cs → k < length t → has_place k cs ≡ false → Missing cs (row_at t k).number
   missing_member [] k g l h = tt
   missing_member (c ∷ cs) k g l h =
       let p : (eqb c.at k ≡ false) × (has_place k cs ≡ false) = or_parts (eqb c.at k) (has_place k cs) h in
@@ -90,14 +90,14 @@ module _ (v : Meaning) (t : List Row) (m : List Mark) (a : Apart t) where
 
   -- the members come after a place that each of them is past
   first_past :
-      (b : ℕ) (cs : List Candidate) (k : ℕ) → All (Good v t m) cs → k < length t → All (λ d. b < d.at) cs → First cs (row_at t k).number → b < k
+      (b : ℕ) (cs : List Candidate) (k : ℕ) → AllByRecursion (Good v t m) cs → k < length t → AllByRecursion (λ d. b < d.at) cs → First cs (row_at t k).number → b < k
   first_past b [] k g l r h = absurd h
   first_past b (c ∷ cs) k g l r (inl e) = let q : c.at ≡ k = member_place c k g.0 l e in omega (arith, r.0)
   first_past b (c ∷ cs) k g l r (inr h) = first_past b cs k g.1 l r.1 h.1
 
   -- the members' places follow sheet order
   pub first_order :
-      (task : ℕ) (ls : List PlanLine) (p : ℕ) (cs : List Candidate) (i j : ℕ) → All (Good v t m) cs → Rising cs → i < j → j < length t →
+      (task : ℕ) (ls : List PlanLine) (p : ℕ) (cs : List Candidate) (i j : ℕ) → AllByRecursion (Good v t m) cs → Rising cs → i < j → j < length t →
       First cs (row_at t i).number → First cs (row_at t j).number →
       (line_of (lines_from task p cs ++ ls) (row_at t i).number).place < (line_of (lines_from task p cs ++ ls) (row_at t j).number).place
   first_order task ls p [] i j g r l jl h k = absurd h
@@ -119,7 +119,7 @@ module _ (v : Meaning) (t : List Row) (m : List Mark) (a : Apart t) where
       omega (arith, first_order task ls (suc p) cs i j g.1 r.1 l jl h.1 k.1)
 
   pub first_response :
-      (task : ℕ) (ls : List PlanLine) (p : ℕ) (cs : List Candidate) (k : ℕ) → All (Good v t m) cs → k < length t →
+      (task : ℕ) (ls : List PlanLine) (p : ℕ) (cs : List Candidate) (k : ℕ) → AllByRecursion (Good v t m) cs → k < length t →
       First cs (row_at t k).number → v t m k ≡ OnTime (line_of (lines_from task p cs ++ ls) (row_at t k).number).response
   first_response task ls p [] k g l h = absurd h
   first_response task ls p (c ∷ cs) k g l (inl e) =
@@ -131,14 +131,14 @@ module _ (v : Meaning) (t : List Row) (m : List Mark) (a : Apart t) where
 
   -- the members' lines name rows that were unplaced
   pub lines_only :
-      (task p : ℕ) (cs : List Candidate) → All (Good v t m) cs →
-      All (λ l. (k : ℕ) × ((k < length t) × ((get_or m k Below ≡ Above) × ((row_at t k).number ≡ l.number)))) (lines_from task p cs)
+      (task p : ℕ) (cs : List Candidate) → AllByRecursion (Good v t m) cs →
+      AllByRecursion (λ l. (k : ℕ) × ((k < length t) × ((get_or m k Below ≡ Above) × ((row_at t k).number ≡ l.number)))) (lines_from task p cs)
   lines_only task p [] g = tt
   lines_only task p (c ∷ cs) g =
       ((c.at, (g.0.within, (g.0.free, ap (λ (r : Row). r.number) g.0.is))), lines_only task (suc p) cs g.1)
 
   later_free :
-      (task p : ℕ) (c : Candidate) (cs : List Candidate) → Good v t m c → All (Good v t m) cs → All (λ d. c.at < d.at) cs →
+      (task p : ℕ) (c : Candidate) (cs : List Candidate) → Good v t m c → AllByRecursion (Good v t m) cs → AllByRecursion (λ d. c.at < d.at) cs →
       Free c.row.number (lines_from task p cs)
   later_free task p c [] h g r = tt
   later_free task p c (d ∷ cs) h g r = (
@@ -149,8 +149,8 @@ module _ (v : Meaning) (t : List Row) (m : List Mark) (a : Apart t) where
   )
 
   pub unique_lines :
-      (task p : ℕ) (cs : List Candidate) (ls : List PlanLine) → All (Good v t m) cs → Rising cs → Unique ls →
-      All (λ c. Free c.row.number ls) cs → Unique (lines_from task p cs ++ ls)
+      (task p : ℕ) (cs : List Candidate) (ls : List PlanLine) → AllByRecursion (Good v t m) cs → Rising cs → Unique ls →
+      AllByRecursion (λ c. Free c.row.number ls) cs → Unique (lines_from task p cs ++ ls)
   unique_lines task p [] ls g r u f = u
   unique_lines task p (c ∷ cs) ls g r u f = (
     All-append (λ l. l.number ≡ c.row.number → ⊥) (lines_from task (suc p) cs) ls

@@ -1,6 +1,6 @@
 -- Courses of calls on one sheet, and what is true of each as a whole. Assumes nothing.
 use Rattle.std.specs.Prelude.{◌≡◌, ℕ, ◌<◌, ◌≤◌, Bool, true, false, cond, ◌↔◌, List, [], ◌∷◌, ◌++◌, length, Some, None, Option, ◌==◌, ◌≢◌, nat_lt}
-use Rattle.std.specs.List.{AllByRecursion as All}
+use Rattle.std.specs.List.{AllByRecursion}
 use Rattle.analysis.specs.Laws.{Lawful, OnTimeBy}
 use Rattle.analysis.specs.Questions.{Fair, Meaning, row_at}
 use Rattle.analysis.specs.Ranges.{InRange, kept_cost}
@@ -96,7 +96,7 @@ pub data Course : List Event → Type 0 where
 
 -- no call among these is an accepted strike of the number
 abbrev pub Unstruck : ℕ → List Event → Type 0
-Unstruck n es = All (λ e. e ≢ strike n true) es
+Unstruck n es = AllByRecursion (λ e. e ≢ strike n true) es
 
 -- an accepted entry of the row lies in the course, with no accepted strike of its number after it
 pub record StandsAfter (es : List Event) (r : Row) : Type 0 where

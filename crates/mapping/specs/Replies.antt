@@ -5,7 +5,7 @@ use Rattle.mapping.specs.Faults.{map_code, map_field}
 use Rattle.mapping.specs.declared.fault.MapFault.{MapFault}
 use Rattle.mapping.specs.declared.plan.Issued.{Issued}
 use Rattle.mapping.specs.declared.plan.PlanLine.{PlanLine}
-use Rattle.std.specs.List.{AllByRecursion as All}
+use Rattle.std.specs.List.{AllByRecursion}
 
 -- the counts of tasks and lines, or a code with the field that it names, 0 where it names none
 pub data Reply : Type 0 where
@@ -44,4 +44,4 @@ pub record Modest (l : PlanLine) : Type 0 where
 -- a plan for a sheet has at most 128 lines, each with small numbers
 pub record Bounded (ls : List PlanLine) : Type 0 where
   pub few : length ls ≤ 128
-  pub each : All Modest ls
+  pub each : AllByRecursion Modest ls

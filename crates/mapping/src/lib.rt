@@ -1,4 +1,7 @@
 //! The sheet of rows, and the mapping of its rows to tasks.
+
+#![tactic(auto)]
+
 mod fault;
 mod plan;
 mod round;

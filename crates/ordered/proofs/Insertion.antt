@@ -1,7 +1,7 @@
 -- Insertion by key, and what it keeps. Assumes nothing.
 use Rattle.std.proofs.Common.{◌≡◌, ℕ, zero, suc, ◌<◌, ◌≤◌, Bool, true, false, cond, ◌&&◌, ltb, leb, List, [], ◌∷◌, length, refl, ap, arith}
 use Rattle.ordered.specs.Keys.{Inserted, ascending, from_key, inserted_by, place_by}
-use Rattle.std.specs.List.{insert, remove, AllByRecursion as All}
+use Rattle.std.specs.List.{insert, remove, AllByRecursion}
 use Rattle.std.proofs.lemmas.List.{append-nil, drop_all, take_all}
 use Rattle.std.proofs.lemmas.Bool.{and_from, and_parts, le-leb, leb-true, ltb-true, ltb-false}
 
@@ -66,7 +66,7 @@ module _ {X : Type 0} (key : X → ℕ) where
       (from_removed (key y) ys i p.0 p.1) (ascending_removed ys i p.1)
 
   -- an element goes behind those of no greater key, and before those of a greater one
-  all_greater : (k : ℕ) (ys : List X) → from_key key k ys ≡ true → ascending key ys ≡ true → (j : ℕ) → j < k → All (λ y. j < key y) ys
+  all_greater : (k : ℕ) (ys : List X) → from_key key k ys ≡ true → ascending key ys ≡ true → (j : ℕ) → j < k → AllByRecursion (λ y. j < key y) ys
   all_greater k [] f a j l = tt
   all_greater k (y ∷ ys) f a j l =
       let p = and_parts (from_key key (key y) ys) (ascending key ys) a in

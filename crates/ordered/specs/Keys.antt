@@ -1,7 +1,7 @@
 -- Lists kept by ascending key, a number that each element has. Assumes nothing.
 use Rattle.std.specs.Prelude.{◌≡◌, ℕ, ◌<◌, ◌≤◌, Bool, true, cond, ◌&&◌, ltb, List, [], ◌∷◌, ◌++◌, nat_le, nat_lt}
 use Rattle.ordered.specs.Tests.{first_place}
-use Rattle.std.specs.List.{AllByRecursion as All}
+use Rattle.std.specs.List.{AllByRecursion}
 
 -- where an element of key k goes: before the first element of a greater key
 abbrev pub place_by : {X : Type 0} → (X → ℕ) → ℕ → List X → ℕ
@@ -28,5 +28,5 @@ pub record Inserted {X : Type 0} (key : X → ℕ) (x : X) (xs ys : List X) : Ty
   pub back : List X
   pub before : xs ≡ front ++ back
   pub after : ys ≡ front ++ x ∷ back
-  pub no_greater : All (λ y. key y ≤ key x) front
-  pub greater : All (λ y. key x < key y) back
+  pub no_greater : AllByRecursion (λ y. key y ≤ key x) front
+  pub greater : AllByRecursion (λ y. key x < key y) back

@@ -1,7 +1,7 @@
 -- The laws of lines and fields. Assumes nothing.
 use Rattle.std.proofs.Common.{◌≡◌, ℕ, suc, ◌<◌, ◌≤◌, Bool, true, false, cond, eqb, List, [], ◌∷◌, ◌++◌, length, sym, refl, ap, ◌∙◌, arith, eqb-true}
 use borrow.Author.Tests.{eqb-false}
-use Rattle.std.specs.List.{flat_map, AllByRecursion as All}
+use Rattle.std.specs.List.{flat_map, AllByRecursion}
 use Rattle.reading.specs.Laws.{ended, Lacks, LinesJoin, LinesLackEnds, LinesFew, FieldsJoin, FieldsLackCommas}
 use Rattle.reading.specs.Lines.{onFirst, lines_of, fields_of}
 use Rattle.reading.proofs.Cuts.{line_cut, fields_any}
@@ -27,7 +27,7 @@ lines_join (c ∷ d ∷ ds) = by (lines_join (d ∷ ds)) (eqb c 10) refl
     by more true e = (λ i. sym (eqb-true c 10 e) i ∷ more i)
     by more false e = on_join 10 c (lines_of (d ∷ ds)) (lines_any d ds) ∙ ap (λ l. c ∷ l) more
 
-on_lacks : (b c : ℕ) → (c ≡ b → ⊥) → (ls : List (List ℕ)) → All (Lacks b) ls → All (Lacks b) (onFirst c ls)
+on_lacks : (b c : ℕ) → (c ≡ b → ⊥) → (ls : List (List ℕ)) → AllByRecursion (Lacks b) ls → AllByRecursion (Lacks b) (onFirst c ls)
 on_lacks b c h [] a = ((h, tt), tt)
 on_lacks b c h (l ∷ ls) a = ((h, a.0), a.1)
 
@@ -35,7 +35,7 @@ pub lines_lack_ends : LinesLackEnds
 lines_lack_ends [] = tt
 lines_lack_ends (c ∷ cs) = by (lines_lack_ends cs) (eqb c 10) refl
   where
-    by : All (Lacks 10) (lines_of cs) → (t : Bool) → eqb c 10 ≡ t → All (Lacks 10) (cond t ([] ∷ lines_of cs) (onFirst c (lines_of cs)))
+    by : AllByRecursion (Lacks 10) (lines_of cs) → (t : Bool) → eqb c 10 ≡ t → AllByRecursion (Lacks 10) (cond t ([] ∷ lines_of cs) (onFirst c (lines_of cs)))
     by more true e = (tt, more)
     by more false e = on_lacks 10 c (eqb-false c 10 e) (lines_of cs) more
 
@@ -51,7 +51,7 @@ pub fields_lack_commas : FieldsLackCommas
 fields_lack_commas [] = (tt, tt)
 fields_lack_commas (c ∷ cs) = by (fields_lack_commas cs) (eqb c 44) refl
   where
-    by : All (Lacks 44) (fields_of cs) → (t : Bool) → eqb c 44 ≡ t → All (Lacks 44) (cond t ([] ∷ fields_of cs) (onFirst c (fields_of cs)))
+    by : AllByRecursion (Lacks 44) (fields_of cs) → (t : Bool) → eqb c 44 ≡ t → AllByRecursion (Lacks 44) (cond t ([] ∷ fields_of cs) (onFirst c (fields_of cs)))
     by more true e = (tt, more)
     by more false e = on_lacks 44 c (eqb-false c 44 e) (fields_of cs) more
 

@@ -1,6 +1,6 @@
 -- Laws of lines, fields and numbers, in the subject's own words. Assumes nothing.
 use Rattle.std.specs.Prelude.{◌≡◌, ℕ, ◌^◌, ◌<◌, ◌≤◌, cond, List, [], ◌∷◌, ◌++◌, length, Some, decimal, ◌==◌, ◌≢◌}
-use Rattle.std.specs.List.{flat_map, AllByRecursion as All}
+use Rattle.std.specs.List.{flat_map, AllByRecursion}
 use Rattle.reading.specs.Lines.{lines_of, fields_of}
 use Rattle.reading.specs.Numbers.{number}
 
@@ -16,11 +16,11 @@ LinesJoin = (s : List ℕ) → flat_map (λ l. l ++ (10 ∷ [])) (lines_of s) �
 
 -- no byte of l is b
 abbrev pub Lacks : ℕ → List ℕ → Type 0
-Lacks b l = All (λ c. c ≢ b) l
+Lacks b l = AllByRecursion (λ c. c ≢ b) l
 
 -- no line has byte 10
 abbrev pub LinesLackEnds : Type 0
-LinesLackEnds = (s : List ℕ) → All (Lacks 10) (lines_of s)
+LinesLackEnds = (s : List ℕ) → AllByRecursion (Lacks 10) (lines_of s)
 
 -- there are at most as many lines as bytes
 abbrev pub LinesFew : Type 0
@@ -32,7 +32,7 @@ FieldsJoin = (l : List ℕ) → flat_map (λ f. f ++ (44 ∷ [])) (fields_of l) 
 
 -- no field has a comma
 abbrev pub FieldsLackCommas : Type 0
-FieldsLackCommas = (l : List ℕ) → All (Lacks 44) (fields_of l)
+FieldsLackCommas = (l : List ℕ) → AllByRecursion (Lacks 44) (fields_of l)
 
 -- the text of a number below 10,000,000 reads as that number
 abbrev pub TextReads : Type 0

@@ -1,4 +1,7 @@
 //! Reads a script into lines, each by its kind.
+
+#![tactic(auto)]
+
 mod fault;
 mod field;
 mod fields;

@@ -5,7 +5,7 @@ use Rattle.mapping.specs.Replies.{Modest}
 use Rattle.mapping.specs.declared.plan.PlanLine.{PlanLine}
 use Rattle.std.proofs.lemmas.Fmt.{length-decimal-le}
 use Rattle.std.proofs.lemmas.List.{length-take-le}
-use Rattle.std.specs.List.{flat_map, AllByRecursion as All}
+use Rattle.std.specs.List.{flat_map, AllByRecursion}
 use Rattle.script.specs.Answers.{items, line_text, plan_text}
 use Rattle.script.specs.Laws.{PlanFits, RefusalFits}
 use Rattle.script.specs.Works.{Fitting}
@@ -23,7 +23,7 @@ line_length : (l : PlanLine) → Modest l → length (line_text l) ≤ 22
 line_length l h =
     omega (arith, length-append (decimal l.task) (items l.place l.number l.response), length-decimal-le 3 l.task (omega arith) (omega arith) (omega arith), items_length l.place l.number l.response 3 5 7 (omega arith) (omega arith) (omega arith) (omega arith) (omega arith) (omega arith) (omega arith) (omega arith) (omega arith))
 
-lines_length : (ls : List PlanLine) → All Modest ls → length (flat_map line_text ls) ≤ 22 * length ls
+lines_length : (ls : List PlanLine) → AllByRecursion Modest ls → length (flat_map line_text ls) ≤ 22 * length ls
 lines_length [] h = omega arith
 lines_length (l ∷ ls) h = omega (arith, length-append (line_text l) (flat_map line_text ls), line_length l h.0, lines_length ls h.1)
 

@@ -1,7 +1,7 @@
 -- One line more of a script. Assumes nothing.
 use Rattle.std.proofs.Common.{◌≡◌, ℕ, zero, suc, ◌+◌, ◌≤◌, List, [], ◌∷◌, ◌++◌, length, take, drop, Some, None, Option, Result, sym, refl, ap, ◌∙◌, subst, add-one, arith}
 use Rattle.std.proofs.lemmas.Bool.{le-ltb}
-use Rattle.std.specs.List.{AllByRecursion as All, slice_get}
+use Rattle.std.specs.List.{AllByRecursion, slice_get}
 use Rattle.mapping.specs.Replies.{Bounded, Modest, last_task}
 use Rattle.mapping.specs.declared.plan.Issued.{Issued}
 use Rattle.mapping.specs.declared.plan.PlanLine.{PlanLine}
@@ -102,7 +102,7 @@ replied_told silent r ls h = ap told_of h
 replied_told (planned ps) r ls h = ap told_of h.0
 replied_told (refused x) r ls h = ap told_of h.1.0 ∙ ap turns.refused h.1.1
 
-last_modest : (n : ℕ) (ls : List PlanLine) → n ≤ 128 → All Modest ls → last_task n ls ≤ 128
+last_modest : (n : ℕ) (ls : List PlanLine) → n ≤ 128 → AllByRecursion Modest ls → last_task n ls ≤ 128
 last_modest n [] h a = h
 last_modest n (l ∷ ls) h a = last_modest l.task ls a.0.task a.1
 

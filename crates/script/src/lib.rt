@@ -1,4 +1,7 @@
 //! Reads a script line by line, does what each line says, and writes its answer.
+
+#![tactic(auto)]
+
 mod answer;
 mod fault;
 mod laws;

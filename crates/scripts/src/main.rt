@@ -1,4 +1,7 @@
 //! Reads many scripts, parted by byte 30, and writes the answers to each with a line `--` after them.
+
+#![tactic(auto)]
+
 use script::answers;
 use std::io;
 use std::io::{Read, Write};

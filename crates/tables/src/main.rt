@@ -1,4 +1,7 @@
 //! Reads tables and writes verdicts, plans and answers about tasks, which are compared with stored ones.
+
+#![tactic(auto)]
+
 mod pile;
 mod record;
 mod refusal;

@@ -15,7 +15,7 @@ use Rattle.ordered.proofs.Testing.{first_within}
 use Rattle.std.proofs.ByRecursion.{All-get_or, All-weaker}
 use Rattle.std.proofs.lemmas.List.{length-map}
 use Rattle.std.proofs.lemmas.Bool.{cases_lt, eq-eqb, eqb-false, eqb-true, false≢true, le-ltb, lt-ltb, ltb-false}
-use Rattle.std.specs.List.{AllByRecursion as All}
+use Rattle.std.specs.List.{AllByRecursion}
 use Rattle.tasks.specs.Answers.{Answer, answer_of, found, refused, refused_if}
 use Rattle.tasks.specs.Members.{Ranged, members, members_answer, row_of, stands}
 use Rattle.tasks.specs.Runs.{has_task, run_of, run_start}
@@ -85,11 +85,11 @@ kept_step true x xs ys e h = ap (λ (zs : List _). x ∷ zs) h
 kept_step false x xs ys e h = absurd (false≢true e)
 
 -- a filter that every element passes
-kept_all : {X : Type 0} (p : X → Bool) (xs : List X) → All (λ x. p x ≡ true) xs → filter p xs ≡ xs
+kept_all : {X : Type 0} (p : X → Bool) (xs : List X) → AllByRecursion (λ x. p x ≡ true) xs → filter p xs ≡ xs
 kept_all p [] h = refl
 kept_all p (x ∷ xs) h = kept_step (p x) x xs (filter p xs) h.0 (kept_all p xs h.1)
 
-load_whole : (m : ℕ) (ms : List Row) → All (λ r. (m * shortest_period ms) % r.period ≡ 0) ms → load_of m ms ≡ summed_cost ms
+load_whole : (m : ℕ) (ms : List Row) → AllByRecursion (λ r. (m * shortest_period ms) % r.period ≡ 0) ms → load_of m ms ≡ summed_cost ms
 load_whole m ms h =
     ap summed_cost (kept_all (divides (m * shortest_period ms)) ms
     (All-weaker (λ r. (m * shortest_period ms) % r.period ≡ 0) (λ r. divides (m * shortest_period ms) r ≡ true)
@@ -100,7 +100,7 @@ load_zero ms =
     load_whole 0 ms (every_one (λ r. (0 * shortest_period ms) % r.period ≡ 0)
     (λ r. ap (λ (n : ℕ). n % r.period) (zero-mul (shortest_period ms)) ∙ zero-mod r.period) ms)
 
-module _ (p : ℕ) (ms : List Row) (one : All (λ r. r.period ≡ p) ms) (some : 1 ≤ length ms) where
+module _ (p : ℕ) (ms : List Row) (one : AllByRecursion (λ r. r.period ≡ p) ms) (some : 1 ≤ length ms) where
   shortest_one : shortest_period ms ≡ p
   shortest_one =
       let e = is_shortest (λ r. r.period) ms some in
@@ -144,7 +144,7 @@ module _ (t : List Row) (k : ℕ) (ls : List PlanLine) (m : ℕ) where
   load_equal v plan h =
       load_is h (λ ms e.
       let p = one_period v t ls plan k (begun t k ls ms e) in
-      load_one p.0 ms (subst (All (λ r. r.period ≡ p.0)) (passed t k ls ms e).3 p.1) (had_some t k ls ms e) m)
+      load_one p.0 ms (subst (AllByRecursion (λ r. r.period ≡ p.0)) (passed t k ls ms e).3 p.1) (had_some t k ls ms e) m)
 
 -- ---- the cycle of a plan of rule equal
 
@@ -157,7 +157,7 @@ cycle_equal t k ls limits (Ok n) a v plan =
     let ms = f.0 in
     let e = f.1.0 in
     let p = one_period v t ls plan k (begun t k ls ms e) in
-    let one = subst (All (λ r. r.period ≡ p.0)) (passed t k ls ms e).3 p.1 in
+    let one = subst (AllByRecursion (λ r. r.period ≡ p.0)) (passed t k ls ms e).3 p.1 in
     let some = had_some t k ls ms e in
     let first = All-get_or (λ r. r.period ≡ p.0) ms 0 no_row some one in
     let range = ranged_at ms 0 (had_ranged t k ls ms e limits) some in
@@ -245,7 +245,7 @@ module _ (v : Meaning) (t : List Row) (k : ℕ) (ls : List PlanLine) (limits : L
   same_period : PlanOf v Equal t ls → Multiples (shortest_period ms) ms
   same_period plan =
       let p = one_period v t ls plan k (begun t k ls ms e) in
-      let one = subst (All (λ r. r.period ≡ p.0)) (passed t k ls ms e).3 p.1 in
+      let one = subst (AllByRecursion (λ r. r.period ≡ p.0)) (passed t k ls ms e).3 p.1 in
       let short = shortest_one p.0 ms one (had_some t k ls ms e) in
       All-weaker (λ r. r.period ≡ p.0) (λ r. Multiple r.period (shortest_period ms)) (λ r x. (1, omega (arith, x, short))) ms one
 

@@ -11,7 +11,7 @@ use Rattle.ordered.specs.Tests.{every}
 use Rattle.std.proofs.ByRecursion.{All-map}
 use Rattle.std.proofs.lemmas.List.{at_drop_more, length-drop, length-map, length-take, map_more, nil_from_length, take_more_set}
 use Rattle.std.proofs.lemmas.Bool.{and_left, and_parts, cases_lt, eqb-false, eqb-true, ltb-false, ltb-true}
-use Rattle.std.specs.List.{AllByRecursion as All, slice_get}
+use Rattle.std.specs.List.{AllByRecursion, slice_get}
 use Rattle.tasks.specs.Answers.{Answer, found, refused, refused_if}
 use Rattle.tasks.specs.Members.{Ranged, members, members_answer, row_of, stands}
 use Rattle.tasks.specs.Runs.{run_answer, run_length, run_of, run_start}
@@ -51,7 +51,7 @@ module _ (t : List Row) (ls : List PlanLine) (i : ℕ) (h : i < length ls) where
 
 -- ---- the rows of lines that all stand are in their ranges
 
-in_ranges : (t : List Row) → Limits t → (ls : List PlanLine) → every (stands t) ls ≡ true → All (λ l. InRange kept_cost (row_of t l)) ls
+in_ranges : (t : List Row) → Limits t → (ls : List PlanLine) → every (stands t) ls ≡ true → AllByRecursion (λ l. InRange kept_cost (row_of t l)) ls
 in_ranges t limits [] e = tt
 in_ranges t limits (l ∷ ls) e =
     let p = and_parts (stands t l) (every (stands t) ls) e in

@@ -9,7 +9,7 @@ use Rattle.std.proofs.ByRecursion.{All-from_get_or}
 use Rattle.std.proofs.lemmas.List.{get_or-drop, get_or-take, length-drop, length-take-le, take_rest}
 use Rattle.std.proofs.lemmas.List.Sums.{prefix_len-drop_yes, prefix_len-le-length}
 use Rattle.std.proofs.lemmas.Bool.{cases_order, eq-eqb, eqb-false, eqb-true, le-ltb, ne_eqb}
-use Rattle.std.specs.List.{prefix_len, AllByRecursion as All}
+use Rattle.std.specs.List.{prefix_len, AllByRecursion}
 use Rattle.tasks.specs.Answers.{found, refused}
 use Rattle.tasks.specs.Runs.{FirstRun, NoLine, RunIs, has_task, run_answer, run_length, run_of, run_start}
 
@@ -121,7 +121,7 @@ module _ (k : ℕ) (ls : List PlanLine) where
   pub run_at : (j : ℕ) → j < run_length k ls → get_or (run_of k ls) j no_line ≡ get_or ls (run_start k ls + j) no_line
   run_at j h = get_or-take (run_length k ls) (drop (run_start k ls) ls) j no_line h ∙ get_or-drop (run_start k ls) ls j no_line
 
-  run_each : run_start k ls < length ls → All (λ l. l.task ≡ k) (run_of k ls)
+  run_each : run_start k ls < length ls → AllByRecursion (λ l. l.task ≡ k) (run_of k ls)
   run_each h =
       All-from_get_or (λ l. l.task ≡ k) (run_of k ls) no_line (λ j l.
       let within : j < run_length k ls = omega (arith, run_size (omega arith)) in

@@ -17,7 +17,7 @@ use Rattle.mapping.proofs.Pairs.{Pairs, pairs_at, pairs_weaker}
 use Rattle.std.proofs.ByRecursion.{All-from_get_or, All-map, All-weaker}
 use Rattle.std.proofs.lemmas.List.{get_or-map, length-map}
 use Rattle.std.proofs.lemmas.Bool.{cases_Bool, cases_lt, eqb-true, eqb-false, ltb-true}
-use Rattle.std.specs.List.{prefix_len, AllByRecursion as All}
+use Rattle.std.specs.List.{prefix_len, AllByRecursion}
 use Rattle.tasks.specs.Members.{members, row_of}
 use Rattle.tasks.specs.Runs.{has_task, run_length, run_of, run_start}
 use Rattle.tasks.proofs.Parts.{first_run, run_at, run_size}
@@ -40,7 +40,7 @@ module _ (k : ℕ) where
   none_step false x rest h e r = r
 
   -- nothing is kept of lines of greater tasks
-  none_kept : (xs : List PlanLine) → All (λ x. k < x.task) xs → filter (has_task k) xs ≡ []
+  none_kept : (xs : List PlanLine) → AllByRecursion (λ x. k < x.task) xs → filter (has_task k) xs ≡ []
   none_kept [] h = refl
   none_kept (x ∷ xs) h = none_step (eqb x.task k) x (filter (has_task k) xs) h.0 refl (none_kept xs h.1)
 
@@ -48,7 +48,7 @@ module _ (k : ℕ) where
   one_more x n xs = let e : 1 + n ≡ suc n = omega arith in rw e
 
   front_step :
-      (b : Bool) (x : PlanLine) (xs : List PlanLine) → eqb x.task k ≡ b → k ≤ x.task → All (λ y. x.task ≤ y.task) xs →
+      (b : Bool) (x : PlanLine) (xs : List PlanLine) → eqb x.task k ≡ b → k ≤ x.task → AllByRecursion (λ y. x.task ≤ y.task) xs →
       take (prefix_len (has_task k) xs) xs ≡ filter (has_task k) xs →
       take (cond b (1 + prefix_len (has_task k) xs) 0) (x ∷ xs) ≡ cond b (x ∷ filter (has_task k) xs) (filter (has_task k) xs)
   front_step true x xs e l r more = one_more x (prefix_len (has_task k) xs) xs ∙ ap (λ (ys : List PlanLine). x ∷ ys) more
@@ -58,7 +58,7 @@ module _ (k : ℕ) where
       sym (none_kept xs (All-weaker (λ y. x.task ≤ y.task) (λ y. k < y.task) (λ y h. omega arith) xs r))
 
   -- the leading lines of the task are all of it, where no line has a smaller one
-  front_whole : (xs : List PlanLine) → All (λ x. k ≤ x.task) xs → Rising xs → take (prefix_len (has_task k) xs) xs ≡ filter (has_task k) xs
+  front_whole : (xs : List PlanLine) → AllByRecursion (λ x. k ≤ x.task) xs → Rising xs → take (prefix_len (has_task k) xs) xs ≡ filter (has_task k) xs
   front_whole [] h r = refl
   front_whole (x ∷ xs) h r = front_step (eqb x.task k) x xs refl h.0 r.0 (front_whole xs h.1 r.1)
 
@@ -67,7 +67,7 @@ module _ (k : ℕ) where
   run_from s ls = take (prefix_len (has_task k) (drop s ls)) (drop s ls)
 
   whole_step :
-      (b : Bool) (x : PlanLine) (xs : List PlanLine) → eqb x.task k ≡ b → All (λ y. x.task ≤ y.task) xs → Rising xs →
+      (b : Bool) (x : PlanLine) (xs : List PlanLine) → eqb x.task k ≡ b → AllByRecursion (λ y. x.task ≤ y.task) xs → Rising xs →
       run_of k xs ≡ filter (has_task k) xs →
       run_from (cond b 0 (suc (run_start k xs))) (x ∷ xs) ≡ cond b (x ∷ filter (has_task k) xs) (filter (has_task k) xs)
   whole_step true x xs e r s more =
@@ -85,7 +85,7 @@ module _ (k : ℕ) where
 
 module _ (k : ℕ) (ls : List PlanLine) (h : run_start k ls < length ls) where
   -- what holds of each line of the task holds of the run
-  all_run : (P : PlanLine → Type 0) → ((j : ℕ) → j < length ls → (get_or ls j no_line).task ≡ k → P (get_or ls j no_line)) → All P (run_of k ls)
+  all_run : (P : PlanLine → Type 0) → ((j : ℕ) → j < length ls → (get_or ls j no_line).task ≡ k → P (get_or ls j no_line)) → AllByRecursion P (run_of k ls)
   all_run P f =
       let s = run_start k ls in
       let r = first_run k ls h in
@@ -147,7 +147,7 @@ module _ (v : Meaning) (rule : Rule) (t : List Row) (ls : List PlanLine) (plan :
 -- under rule equal the members of a task have one period
 pub one_period :
     (v : Meaning) (t : List Row) (ls : List PlanLine) → PlanOf v Equal t ls → (k : ℕ) → run_start k ls < length ls →
-    (p : ℕ) × All (λ r. r.period ≡ p) (members t (run_of k ls))
+    (p : ℕ) × AllByRecursion (λ r. r.period ≡ p) (members t (run_of k ls))
 one_period v t ls plan k h =
     let s = run_start k ls in (
       (row_at t (plan.tasks s h).lead).period,
@@ -181,7 +181,7 @@ module _ (v : Meaning) (t : List Row) (ls : List PlanLine) (plan : PlanOf v Divi
       let g = goes j l e in
       subst (Multiple (row_of t (get_or ls j no_line)).period) (shortest_same v t then_marks lead_period g.0 divisor g.1.0 is_divisor) g.1.1
 
-  pub all_divided : All (λ r. Multiple r.period divisor) (members t (run_of k ls))
+  pub all_divided : AllByRecursion (λ r. Multiple r.period divisor) (members t (run_of k ls))
   all_divided =
       All-map (λ r. Multiple r.period divisor) (row_of t) (run_of k ls)
       (all_run k ls h (λ l. Multiple (row_of t l).period divisor) divided)

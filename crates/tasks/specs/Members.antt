@@ -6,7 +6,7 @@ use Rattle.analysis.specs.declared.row.Row.{Row}
 use Rattle.mapping.specs.Sheets.{has_number, place_of}
 use Rattle.mapping.specs.declared.plan.PlanLine.{PlanLine}
 use Rattle.ordered.specs.Tests.{every}
-use Rattle.std.specs.List.{AllByRecursion as All}
+use Rattle.std.specs.List.{AllByRecursion}
 use Rattle.tasks.specs.Answers.{Answer, found, refused_if}
 use Rattle.tasks.specs.Runs.{run_of}
 
@@ -34,4 +34,4 @@ members_answer t k ls =
 pub record Ranged (ms : List Row) : Type 0 where
   pub some : 1 ≤ length ms
   pub few : length ms ≤ 128
-  pub each : All (InRange kept_cost) ms
+  pub each : AllByRecursion (InRange kept_cost) ms

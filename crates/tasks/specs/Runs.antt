@@ -3,7 +3,7 @@ use Rattle.std.specs.Prelude.{◌≡◌, ℕ, ◌+◌, ◌<◌, ◌≤◌, Bool,
 use Rattle.mapping.specs.Lines.{no_line}
 use Rattle.mapping.specs.declared.plan.PlanLine.{PlanLine}
 use Rattle.ordered.specs.Tests.{first_place}
-use Rattle.std.specs.List.{prefix_len, AllByRecursion as All}
+use Rattle.std.specs.List.{prefix_len, AllByRecursion}
 use Rattle.tasks.specs.Answers.{Answer, found, refused_if}
 
 -- ---- by computation
@@ -32,7 +32,7 @@ run_answer k ls = refused_if (nat_lt 128 (length ls)) 7 (refused_if (length (run
 
 -- no line has the task k
 abbrev pub NoLine : ℕ → List PlanLine → Type 0
-NoLine k ls = All (λ l. l.task ≢ k) ls
+NoLine k ls = AllByRecursion (λ l. l.task ≢ k) ls
 
 -- the n lines from the place i on are the first unbroken run of the task k
 pub record FirstRun (k : ℕ) (ls : List PlanLine) (i n : ℕ) : Type 0 where
@@ -52,4 +52,4 @@ pub record RunIs (k : ℕ) (ls part : List PlanLine) : Type 0 where
   pub first_run : FirstRun k ls begins (length part)
   pub no_other : (i n : ℕ) → FirstRun k ls i n → (i ≡ begins) × (n ≡ length part)
   -- each of its lines has the task
-  pub each : All (λ l. l.task ≡ k) part
+  pub each : AllByRecursion (λ l. l.task ≡ k) part

@@ -4,7 +4,7 @@ use Rattle.analysis.specs.Questions.{row_at}
 use Rattle.analysis.specs.declared.row.Row.{Row}
 use Rattle.mapping.specs.PlanLaw.{Multiple}
 use Rattle.mapping.specs.declared.plan.PlanLine.{PlanLine}
-use Rattle.std.specs.List.{AllByRecursion as All}
+use Rattle.std.specs.List.{AllByRecursion}
 use Rattle.tasks.specs.Answers.{Answer, found, refused, refused_if}
 use Rattle.tasks.specs.Members.{members_answer}
 
@@ -104,7 +104,7 @@ pub record LoadOf (m : ℕ) (ms : List Row) (x : ℕ) : Type 0 where
   pub period : ℕ
   pub shortest : Shortest (λ r. r.period) ms period
   pub runs : Row → Bool
-  pub when : All (λ r. Decides (runs r) (Multiple (m * period) r.period)) ms
+  pub when : AllByRecursion (λ r. Decides (runs r) (Multiple (m * period) r.period)) ms
   pub is : x ≡ summed_cost (filter runs ms)
 
 -- a cycle: the longest period by the shortest
@@ -117,4 +117,4 @@ pub record CycleOf (ms : List Row) (x : ℕ) : Type 0 where
 
 -- the period of each member is a multiple of n
 abbrev pub Multiples : ℕ → List Row → Type 0
-Multiples n ms = All (λ r. Multiple r.period n) ms
+Multiples n ms = AllByRecursion (λ r. Multiple r.period n) ms

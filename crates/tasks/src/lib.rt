@@ -1,4 +1,7 @@
 //! What can be asked about a task of a list of plan lines, whoever made the list.
+
+#![tactic(auto)]
+
 mod fault;
 mod members;
 mod questions;

@@ -1,4 +1,7 @@
 //! Twelve worked tables: what is asked and what is expected, held to the definitions by one proof over their list.
+
+#![tactic(auto)]
+
 mod case;
 mod tables;
 

@@ -9,16 +9,16 @@ use Rattle.analysis.proofs.question.check_question.Goals as goal
 pub returns-then-field-ne0 : goal.returns-then-field-ne0
 returns-then-field-ne0 c =
     let t = c.args.table.now in
-    let f = c.wrong-field-field.result in
+    let f = c.wrong_field-field.result in
     let v : Err (Range f) ≡ checked t c.args.marks.now c.args.place =
     checked_range t c.args.marks.now c.args.place (omega arith) (omega arith) (omega arith) f
     (sym c.loop-row.invariant ∙ first_here t c.loop-row.row-index f (omega arith)
-    (sym c.wrong-field-field.ensures) c.if-field-ne0.true) c.if-field-ne0.true in
+    (sym c.wrong_field-field.ensures) c.if-field-ne0.true) c.if-field-ne0.true in
     record { value = v; fair = checked_fair t c.args.marks.now c.args.place (Err (Range f)) v }
 
 -- src/question.rt:73:5
 pub loop-row-preserved : goal.loop-row-preserved
-loop-row-preserved c = first_later c.args.table.now c.loop-row.row-index (omega arith) (sym c.wrong-field-field.ensures ∙ c.if-field-ne0.false) ∙ c.loop-row.invariant
+loop-row-preserved c = first_later c.args.table.now c.loop-row.row-index (omega arith) (sym c.wrong_field-field.ensures ∙ c.if-field-ne0.false) ∙ c.loop-row.invariant
 
 -- src/question.rt:66:1
 pub returns : goal.returns

@@ -5,11 +5,11 @@ use Rattle.reading.specs.Says.{numbered}
 use Rattle.reading.proofs.Checks.{number_here, number_missing}
 use Rattle.reading.proofs.fields.check.Goals as goal
 
-pub returns-then-is-none : goal.returns-then-is-none
-returns-then-is-none c x = c.loop-i.invariant x ∙ number_missing c.args.fields.now c.loop-i.i _ c.loop-i-test.true x (sym (ap is_some c.number-of.ensures) ∙ c.if-is-none.ensures)
+pub returns-then-is_none : goal.returns-then-is_none
+returns-then-is_none c x = c.loop-i.invariant x ∙ number_missing c.args.fields.now c.loop-i.i _ c.loop-i-test.true x (sym (ap is_some c.number_of.ensures) ∙ c.if-is_none.ensures)
 
 pub loop-i-preserved : goal.loop-i-preserved
-loop-i-preserved c x = c.loop-i.invariant x ∙ number_here c.args.fields.now c.loop-i.i _ c.loop-i-test.true x (sym (ap is_some c.number-of.ensures) ∙ c.if-is-none.ensures)
+loop-i-preserved c x = c.loop-i.invariant x ∙ number_here c.args.fields.now c.loop-i.i _ c.loop-i-test.true x (sym (ap is_some c.number_of.ensures) ∙ c.if-is_none.ensures)
 
 pub returns : goal.returns
 returns c x = c.loop-i.invariant x ∙ at_drop_all (λ l. numbered (c.loop-i.i + 1) (map text l) x) c.args.fields.now _ c.loop-i-test.false

@@ -3,4 +3,4 @@ use Rattle.script.proofs.Puts.{put_mid}
 use Rattle.script.proofs.answer.put.Goals as goal
 
 pub returns : goal.returns
-returns c = (refl, put_mid c.args.room.now c.args.text.now _ c.args.place c.copy-from-slice.ensures.after)
+returns c = (refl, put_mid c.args.room.now c.args.text.now _ c.args.place c.copy_from_slice.ensures.after)

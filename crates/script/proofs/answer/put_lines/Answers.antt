@@ -8,13 +8,13 @@ use Rattle.script.proofs.answer.put_lines.Goals as goal
 pub loop-line-init : goal.loop-line-init
 loop-line-init c = puts_none c.args.room.now c.args.place
 
-pub put-line-end-requires : goal.put-line-end-requires
-put-line-end-requires c =
+pub put_line-end-requires : goal.put_line-end-requires
+put_line-end-requires c =
     omega (arith, next_fits c.args.lines.now c.loop-line.line-index (record { task = 0; place = 0; number = 0; response = 0 }) c.loop-line-test.true c.args.room.now c.args.place c.loop-line.end c.loop-line.room c.requires c.loop-line.invariant)
 
 pub loop-line-preserved : goal.loop-line-preserved
 loop-line-preserved c =
-    next_put c.args.lines.now c.loop-line.line-index _ c.loop-line-test.true c.args.room.now c.args.place c.loop-line.end c.loop-line.room c.requires c.loop-line.invariant c.put-line-end.result c.put-line-end.new.room c.put-line-end.ensures
+    next_put c.args.lines.now c.loop-line.line-index _ c.loop-line-test.true c.args.room.now c.args.place c.loop-line.end c.loop-line.room c.requires c.loop-line.invariant c.put_line-end.result c.put_line-end.new.room c.put_line-end.ensures
 
 pub returns : goal.returns
 returns c =

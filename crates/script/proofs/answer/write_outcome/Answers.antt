@@ -9,14 +9,14 @@ use Rattle.script.specs.declared.fault.Fault.{Fault}
 use Rattle.script.proofs.Fits.{outcome_fits, refusal_fits}
 use Rattle.script.proofs.answer.write_outcome.Goals as goal
 
-pub write-plan-requires : goal.write-plan-requires
-write-plan-requires c =
+pub write_plan-requires : goal.write_plan-requires
+write_plan-requires c =
     let f : Fitting (Ok (Some c.in-Some.issued)) c.args.lines.now =
     subst (λ (o : Result (Option Issued) Fault). Fitting o c.args.lines.now) (c.in-Ok.is ∙ ap Ok c.in-Some.is) c.requires.fitting in
     omega (arith, outcome_fits c.args.line c.in-Some.issued c.args.lines.now c.requires.early f)
 
-pub write-refusal-requires : goal.write-refusal-requires
-write-refusal-requires c =
+pub write_refusal-requires : goal.write_refusal-requires
+write_refusal-requires c =
     omega (arith, refusal_fits c.args.line c.field.result c.code.result (omega arith) (omega arith) (omega arith))
 
 pub returns-in-Some : goal.returns-in-Some
@@ -30,10 +30,10 @@ returns-in-Some c =
     ∙ ap (λ (o : Result (Option Issued) Fault). outcome_text c.args.line o ls) (sym (c.in-Ok.is ∙ ap Ok c.in-Some.is)) in
     record {
       writes = (
-        c.write-plan.ensures.0 ∙ ap length t,
-        c.write-plan.ensures.1 ∙ ap (λ (x : List ℕ). x ++ drop (length x) c.args.room.now) t,
+        c.write_plan.ensures.0 ∙ ap length t,
+        c.write_plan.ensures.1 ∙ ap (λ (x : List ℕ). x ++ drop (length x) c.args.room.now) t,
       );
-      within = omega (arith, c.write-plan.ensures.0, outcome_fits c.args.line i ls c.requires.early f);
+      within = omega (arith, c.write_plan.ensures.0, outcome_fits c.args.line i ls c.requires.early f);
     }
 
 pub returns-in-Err : goal.returns-in-Err
@@ -45,8 +45,8 @@ returns-in-Err c =
     ∙ ap (λ (o : Result (Option Issued) Fault). outcome_text c.args.line o c.args.lines.now) (sym c.in-Err.is) in
     record {
       writes = (
-        c.write-refusal.ensures.0 ∙ ap length t,
-        c.write-refusal.ensures.1 ∙ ap (λ (x : List ℕ). x ++ drop (length x) c.args.room.now) t,
+        c.write_refusal.ensures.0 ∙ ap length t,
+        c.write_refusal.ensures.1 ∙ ap (λ (x : List ℕ). x ++ drop (length x) c.args.room.now) t,
       );
-      within = omega (arith, c.write-refusal.ensures.0, fits);
+      within = omega (arith, c.write_refusal.ensures.0, fits);
     }

@@ -20,7 +20,7 @@ returns-in-Ok c =
     let whole : answers_from start 1 (lines_of (script_of c.in-Ok.session)) ≡ output script =
     ap (λ (z : List ℕ). answers_from start 1 (lines_of z)) h.1.0 ∙ rw (le-ltb 65536 (length script) h.0) in
     record {
-      text = IfOk-weaker c.answer-lines.result _ _ (λ v e. e ∙ whole) c.answer-lines.ensures;
+      text = IfOk-weaker c.answer_lines.result _ _ (λ v e. e ∙ whole) c.answer_lines.ensures;
       course = script_law script;
       between = row_between script;
     }
@@ -34,7 +34,7 @@ returns-in-Refused c =
     let whole : refusal_text 0 (refusal_of f).field (refusal_of f).code ≡ output script =
     ap (λ (r : Refusal). refusal_text 0 r.field r.code) h.1 ∙ rw (lt-ltb 65536 (length script) h.0) in
     record {
-      text = IfOk-weaker c.refuse-script.result _ _ (λ v e. e ∙ whole) c.refuse-script.ensures;
+      text = IfOk-weaker c.refuse_script.result _ _ (λ v e. e ∙ whole) c.refuse_script.ensures;
       course = script_law script;
       between = row_between script;
     }

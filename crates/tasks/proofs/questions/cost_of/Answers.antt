@@ -4,13 +4,13 @@ use Rattle.tasks.proofs.Summing.{divided_all, divided_more, ranged_at, undivided
 use Rattle.tasks.proofs.questions.cost_of.Goals as goal
 use Rattle.tasks.proofs.questions.cost_of.Goals.{then-time-row-eq0, else-time-row-eq0}
 
-pub nonzero-rem-time : goal.nonzero-rem-time
-nonzero-rem-time c =
+pub nonzero_rem-time : goal.nonzero_rem-time
+nonzero_rem-time c =
     let r = ranged_at c.args.members.now c.loop-row.row-index c.requires c.loop-row-test.true in
     omega (arith, r.period_least)
 
-pub overflow-add-cost : goal.overflow-add-cost
-overflow-add-cost c =
+pub overflow_add-cost : goal.overflow_add-cost
+overflow_add-cost c =
     let r = ranged_at c.args.members.now c.loop-row.row-index c.requires c.loop-row-test.true in
     omega (arith, r.cost_most, c.loop-row.invariant.1, c.requires.few)
 

@@ -12,12 +12,12 @@ returns c =
     let t = rows_of c.args.sheet.now in
     let k = c.args.task in
     let ls = c.args.lines.now in
-    let m = c.in-ok-members.members in
+    let m = c.in_ok-members.members in
     let ms = take m.count m.rows in
-    let x = c.totals-of.result in
-    let is : x ≡ totals_of ms = c.totals-of.ensures.value ∙ ap totals_of c.as-slice.ensures in
+    let x = c.totals_of.result in
+    let is : x ≡ totals_of ms = c.totals_of.ensures.value ∙ ap totals_of c.as_slice.ensures in
     let answer : found x ≡ totals_answer t k ls =
-    ap (λ (y : ℕ × ℕ × ℕ). found y) is ∙ ap (answered totals_of) c.in-ok-members.ensures.answer in
+    ap (λ (y : ℕ × ℕ × ℕ). found y) is ∙ ap (answered totals_of) c.in_ok-members.ensures.answer in
     record {
       answer = answer;
       shortest = totals_shortest t k ls (Ok x) answer;

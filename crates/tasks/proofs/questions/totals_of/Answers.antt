@@ -4,8 +4,8 @@ use Rattle.tasks.proofs.Summing.{best_all, best_more, cost_all, cost_more, range
 use Rattle.tasks.proofs.Extremes.{period_least}
 use Rattle.tasks.proofs.questions.totals_of.Goals as goal
 
-pub overflow-add-cost : goal.overflow-add-cost
-overflow-add-cost c =
+pub overflow_add-cost : goal.overflow_add-cost
+overflow_add-cost c =
     let r = ranged_at c.args.members.now c.loop-row.row-index c.requires c.loop-row-test.true in
     omega (arith, r.cost_most, c.loop-row.invariant.3, c.requires.few)
 

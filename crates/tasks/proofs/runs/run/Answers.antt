@@ -11,15 +11,15 @@ pub returns-then-start-lines : goal.returns-then-start-lines
 returns-then-start-lines c =
     let k = c.args.task in
     let ls = c.args.lines.now in
-    let e : run_start k ls ≡ length ls = sym c.start-of-start.ensures.value ∙ c.if-start-lines.true in
+    let e : run_start k ls ≡ length ls = sym c.start_of-start.ensures.value ∙ c.if-start-lines.true in
     record { answer = answer_absent k ls (omega arith) e; part = λ _. none_has k ls e; whole = λ _ _. tt }
 
 pub returns : goal.returns
 returns c =
     let k = c.args.task in
     let ls = c.args.lines.now in
-    let s = c.start-of-start.result in
-    let e = part_is k ls s c.length-of.result c.start-of-start.ensures.value c.length-of.ensures.value in
-    let h : run_start k ls < length ls = omega (arith, c.start-of-start.ensures.value) in
+    let s = c.start_of-start.result in
+    let e = part_is k ls s c.length_of.result c.start_of-start.ensures.value c.length_of.ensures.value in
+    let h : run_start k ls < length ls = omega (arith, c.start_of-start.ensures.value) in
     let P : List PlanLine → Type 0 = RunIs k ls in
     record { answer = ap (λ (p : List PlanLine). found p) e ∙ answer_found k ls (omega arith) h; part = subst P (sym e) (run_is k ls h); whole = λ t l. e ∙ whole k ls (plan_rises t ls l) }

@@ -11,6 +11,6 @@ returns c =
     let t = c.args.table.now in
     let m = c.args.marks.now in
     record {
-      answer = ap judged c.settle.ensures ∙ sym (fair_answer exact t m c.args.place c.in-ok-check-question.ensures.fair);
+      answer = ap judged c.settle.ensures ∙ sym (fair_answer exact t m c.args.place c.in_ok-check_question.ensures.fair);
       least = λ _. response_is 0 t m c.args.place c.settle.result c.settle.ensures;
     }

@@ -12,8 +12,8 @@ returns c =
     let m = c.args.marks.now in
     let i = c.args.place in
     let e : c.settle.result ≡ response (blocking t m i) t m i =
-    c.settle.ensures ∙ ap (λ (b : ℕ). response b t m i) c.longest-section-blocking.ensures in
+    c.settle.ensures ∙ ap (λ (b : ℕ). response b t m i) c.longest_section-blocking.ensures in
     record {
-      answer = ap judged e ∙ sym (fair_answer sections t m i c.in-ok-check-question.ensures.fair);
+      answer = ap judged e ∙ sym (fair_answer sections t m i c.in_ok-check_question.ensures.fair);
       least = λ _. response_is (blocking t m i) t m i c.settle.result e;
     }

@@ -12,4 +12,4 @@ pub returns : goal.returns
 returns g c =
     let n : length c.args.table.now - 0 ≡ length c.args.table.now = omega arith in
     charged_answer c.args.self.now.ticks.value (g.A.Analysis.verdict c.args.self.now.below) c.args.table.now _ c.args.marks.now c.args.place _
-    c.in-ok-check-question.ensures.fair (ap (λ k. take k c.raise-all-rows.result) n ∙ c.raise-all-rows.ensures) c.ask-2.ensures
+    c.in_ok-check_question.ensures.fair (ap (λ k. take k c.raise_all-rows.result) n ∙ c.raise_all-rows.ensures) c.ask-2.ensures

@@ -7,22 +7,17 @@ use Rattle.layers.proofs.Listing.{fine_pair, same_turns}
 use Rattle.ordered.proofs.Testing.{apart_kept, every_kept}
 use Rattle.layers.proofs.pair_list.PairList.add.Goals as goal
 
-pub invariant-of-self : goal.invariant-of-self
-invariant-of-self c =
+pub invariant_of-self : goal.invariant_of-self
+invariant_of-self c =
     let p : Pair = record { upper = c.args.upper; lower = c.args.lower } in
     let ps = pairs_of c.args.self.now in
     let free = ltb (length ps) c.args.self.now.pairs.most in
-    let new : has_pair p ps ≡ false = ap (λ (l : List Pair). has_pair p l) (sym c.as-slice.ensures) ∙ sym c.if-holds.ensures in (
-      c.insert.ensures.most ∙ c.args.self.now.roomy,
-      (
-        every_kept pair_in_range (λ q. q.upper) free p ps _ c.insert.ensures.items
-            (fine_pair c.args.upper c.args.lower (omega arith) (omega arith) (omega arith) (omega arith) c.if-upper-lower.false) c.args.self.now.ranges,
-        (
-          apart_kept same_pair same_turns (λ q. q.upper) free p ps _ c.insert.ensures.items new c.args.self.now.apart,
-          (
-            c.insert.ensures.ordered c.args.self.now.ordered,
-            tt,
-          ),
-        ),
-      ),
-    )
+    let new : has_pair p ps ≡ false = ap (λ (l : List Pair). has_pair p l) (sym c.as_slice.ensures) ∙ sym c.if-holds.ensures in
+    record {
+      roomy = c.insert.ensures.most ∙ c.args.self.now.roomy;
+      ranges =
+          every_kept pair_in_range (λ q. q.upper) free p ps _ c.insert.ensures.items
+          (fine_pair c.args.upper c.args.lower (omega arith) (omega arith) (omega arith) (omega arith) c.if-upper-lower.false) c.args.self.now.ranges;
+      apart = apart_kept same_pair same_turns (λ q. q.upper) free p ps _ c.insert.ensures.items new c.args.self.now.apart;
+      ordered = c.insert.ensures.ordered c.args.self.now.ordered;
+    }

@@ -20,9 +20,9 @@ returns-then-breaks g c =
     let t = c.args.table.now in
     let m = c.args.marks.now in
     let i = c.args.place in
-    let q = c.in-ok-check-question.ensures.fair in
+    let q = c.in_ok-check_question.ensures.fair in
     let b : pair_broken ps (row_at t i).number t (set m i Below) ≡ true =
-    ap (λ (l : List Pair). pair_broken l (row_at t i).number t (set m i Below)) (sym c.as-slice.ensures) ∙ sym c.if-breaks.ensures in
+    ap (λ (l : List Pair). pair_broken l (row_at t i).number t (set m i Below)) (sym c.as_slice.ensures) ∙ sym c.if-breaks.ensures in
     record {
       answer =
           sym (fair_answer (with_pairs ps v) t m i q ∙ ap judged (cond-true (pair_broken ps (row_at t i).number t (set m i Below)) Late (v t m i) b));
@@ -38,7 +38,7 @@ returns g c =
     let m = c.args.marks.now in
     let i = c.args.place in
     let b : pair_broken ps (row_at t i).number t (set m i Below) ≡ false =
-    ap (λ (l : List Pair). pair_broken l (row_at t i).number t (set m i Below)) (sym c.as-slice.ensures) ∙ sym c.if-breaks.ensures in
+    ap (λ (l : List Pair). pair_broken l (row_at t i).number t (set m i Below)) (sym c.as_slice.ensures) ∙ sym c.if-breaks.ensures in
     record {
       answer =
           c.ask.ensures

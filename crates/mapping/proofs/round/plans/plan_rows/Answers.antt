@@ -30,16 +30,16 @@ returns-then-n-eq0 g c =
     let m = c.loop-filled.marks in
     let task = c.loop-filled.task in
     let I = c.loop-filled.invariant in
-    let none : length (members c.args.rule (candidates v t m)) ≡ 0 = sym c.next-task-n.ensures.count ∙ c.if-n-eq0.true in
+    let none : length (members c.args.rule (candidates v t m)) ≡ 0 = sym c.next_task-n.ensures.count ∙ c.if-n-eq0.true in
     plan_none v c.args.rule t task (length t + 1 - task) (length t - task) m (take c.loop-filled.filled c.loop-filled.lines) _
     (omega (arith, I.0, I.1, c.loop-filled-test.true)) (omega (arith, I.2, c.loop-filled-test.true)) none I.3
 
-pub overflow-add-filled : goal.overflow-add-filled
-overflow-add-filled g c =
+pub overflow_add-filled : goal.overflow_add-filled
+overflow_add-filled g c =
     let v = g.A.Analysis.verdict c.args.analysis.now in
     let left = left_members v c.args.rule c.args.rows.now c.loop-filled.marks in
     let I = c.loop-filled.invariant in
-    omega (arith, left, I.2, c.next-task-n.ensures.count, c.requires.asked.few)
+    omega (arith, left, I.2, c.next_task-n.ensures.count, c.requires.asked.few)
 
 pub loop-filled-preserved : goal.loop-filled-preserved
 loop-filled-preserved g c =
@@ -49,22 +49,22 @@ loop-filled-preserved g c =
     let m = c.loop-filled.marks in
     let task = c.loop-filled.task in
     let filled = c.loop-filled.filled in
-    let n = c.next-task-n.result in
+    let n = c.next_task-n.result in
     let ls = take filled c.loop-filled.lines in
-    let ls' = take (filled + n) c.next-task-n.new.lines in
+    let ls' = take (filled + n) c.next_task-n.new.lines in
     let ms = members rule (candidates v t m) in
     let I = c.loop-filled.invariant in
     let left = left_members v rule t m in
-    let count = c.next-task-n.ensures.count in
+    let count = c.next_task-n.ensures.count in
     let some : 0 < length ms = omega (arith, count, c.if-n-eq0.false) in
-    let marks : unplaced c.next-task-n.new.marks ≡ unplaced (placed ms m) = ap (λ (u : List Mark). unplaced u) c.next-task-n.ensures.marks in
+    let marks : unplaced c.next_task-n.new.marks ≡ unplaced (placed ms m) = ap (λ (u : List Mark). unplaced u) c.next_task-n.ensures.marks in
     let fuel : length t + 1 - task ≡ suc (length t + 1 - (task + 1)) = omega (arith, I.0, I.1, c.loop-filled-test.true) in
-    let on = plan_on v rule t task (length t + 1 - task) (length t + 1 - (task + 1)) m ls ls' (plan v rule t) fuel (omega (arith, I.2, c.loop-filled-test.true)) some c.next-task-n.ensures.lines I.3 in
-    let last : last_task 0 ls' ≡ task = ap (λ (u : List PlanLine). last_task 0 u) c.next-task-n.ensures.lines ∙ last_on task ls ms some in (
+    let on = plan_on v rule t task (length t + 1 - task) (length t + 1 - (task + 1)) m ls ls' (plan v rule t) fuel (omega (arith, I.2, c.loop-filled-test.true)) some c.next_task-n.ensures.lines I.3 in
+    let last : last_task 0 ls' ≡ task = ap (λ (u : List PlanLine). last_task 0 u) c.next_task-n.ensures.lines ∙ last_on task ls ms some in (
       omega arith,
       omega (arith, I.1, c.if-n-eq0.false),
       omega (arith, marks, left, I.2, count),
-      ap (λ (u : List Mark). ahead ls' (plan_from (length t + 1 - (task + 1)) v rule t (task + 1) u)) c.next-task-n.ensures.marks ∙ on,
+      ap (λ (u : List Mark). ahead ls' (plan_from (length t + 1 - (task + 1)) v rule t (task + 1) u)) c.next_task-n.ensures.marks ∙ on,
       omega (arith, last),
     )
 

@@ -7,7 +7,7 @@ use Rattle.mapping.specs.Plans.{candidates, candidates_from, if_on_time, if_unpl
 use Rattle.mapping.proofs.Rounds.{candidates_more, found_more, found_none}
 use Rattle.std.proofs.lemmas.List.{drop_all}
 use Rattle.mapping.proofs.round.steps.candidates.Goals as goal
-use Rattle.mapping.proofs.round.steps.candidates.Goals.{in-Some, in-default}
+use Rattle.mapping.proofs.round.steps.candidates.Goals.{in-Some, in_default}
 
 pub loop-k-preserved : goal.loop-k-preserved
 loop-k-preserved g c =
@@ -21,9 +21,9 @@ loop-k-preserved g c =
     let all = candidates (g.A.Analysis.verdict c.args.analysis.now) t m in
     let more : these ≡ here ++ rest = candidates_more ask t m k c.loop-k-test.true c.requires.asked.marked in
     let l : c.loop-k.n < length c.loop-k.found = omega (arith, c.loop-k.invariant.0, c.requires.room) in
-    elim c.match-candidate-at.branch [
-      | in-Some w ↦ (omega (arith, w.n-is, c.loop-k.invariant.0), found_more c.loop-k.found c.match-candidate-at.found c.loop-k.n c.match-candidate-at.n w.in-Some.candidate these here rest all w.found-is w.n-is l w.in-Some.ensures more c.loop-k.invariant.1)
-      | in-default w ↦ (omega (arith, w.n-is, c.loop-k.invariant.0), found_none c.loop-k.found c.match-candidate-at.found c.loop-k.n c.match-candidate-at.n these here rest all w.found-is w.n-is w.in-default.ensures more c.loop-k.invariant.1)
+    elim c.match-candidate_at.branch [
+      | in-Some w ↦ (omega (arith, w.n-is, c.loop-k.invariant.0), found_more c.loop-k.found c.match-candidate_at.found c.loop-k.n c.match-candidate_at.n w.in-Some.candidate these here rest all w.found-is w.n-is l w.in-Some.ensures more c.loop-k.invariant.1)
+      | in_default w ↦ (omega (arith, w.n-is, c.loop-k.invariant.0), found_none c.loop-k.found c.match-candidate_at.found c.loop-k.n c.match-candidate_at.n these here rest all w.found-is w.n-is w.in_default.ensures more c.loop-k.invariant.1)
     ]
 
 pub returns : goal.returns

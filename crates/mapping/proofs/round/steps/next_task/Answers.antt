@@ -24,16 +24,16 @@ returns-then-n-eq0 g c =
       marks = sym (placed_none 0 m) ∙ sym (ap (λ (cs : List Candidate). placed cs m) M);
     }
 
-pub shortest-divisor-divisor-requires : goal.shortest-divisor-divisor-requires
-shortest-divisor-divisor-requires g c =
+pub shortest_divisor-divisor-requires : goal.shortest_divisor-divisor-requires
+shortest_divisor-divisor-requires g c =
     let v = g.A.Analysis.verdict c.args.analysis.now in
     let t = c.args.rows.now in
     let m = c.args.marks.now in
     let e : take (c.candidates-n.result - 0) c.candidates-n.new.found ≡ candidates v t m = rw sub-zero c.candidates-n.ensures.found in
     (subst (Usable (length m)) (sym e) (usable v t m c.requires.asked)).periods
 
-pub place-members-requires : goal.place-members-requires
-place-members-requires g c =
+pub place_members-requires : goal.place_members-requires
+place_members-requires g c =
     let v = g.A.Analysis.verdict c.args.analysis.now in
     let t = c.args.rows.now in
     let m = c.args.marks.now in
@@ -48,7 +48,7 @@ place-members-requires g c =
     let low : 0 < p = used.periods (n - 1) (omega (arith, long, c.if-n-eq0.false)) in
     let above = shortest_above p found low used.periods in
     record {
-      positive = omega (arith, above, c.shortest-divisor-divisor.ensures);
+      positive = omega (arith, above, c.shortest_divisor-divisor.ensures);
       usable = used;
       few = omega (arith, long, c.candidates-n.ensures.bound, c.requires.asked.few);
       room = omega (arith, same, most, c.requires.room);
@@ -65,17 +65,17 @@ returns g c =
     let e : found ≡ candidates v t m = rw sub-zero c.candidates-n.ensures.found in
     let long : length found ≡ n = simp (sub-zero, length-take) (omega (arith, c.candidates-n.ensures.bound, c.requires.asked.few)) in
     let p = (get_or found (n - 1) no_candidate).row.period in
-    let D = c.shortest-divisor-divisor.result in
+    let D = c.shortest_divisor-divisor.result in
     let last : p ≡ (get_or found (length found - 1) no_candidate).row.period =
     ap (λ (k : ℕ). (get_or found (k - 1) no_candidate).row.period) (sym long) in
     let M : led (record { rule = rule; period = p; divisor = D }) found ≡ members rule (candidates v t m) =
-    ap (λ (d : ℕ). led (record { rule = rule; period = p; divisor = d }) found) c.shortest-divisor-divisor.ensures ∙
+    ap (λ (d : ℕ). led (record { rule = rule; period = p; divisor = d }) found) c.shortest_divisor-divisor.ensures ∙
     sym (members_are rule found p (omega (arith, long, c.if-n-eq0.false)) last) ∙
     ap (λ (cs : List Candidate). members rule cs) e in
     record {
-      count = c.place-members.ensures.count ∙ ap (λ (cs : List Candidate). length cs) M;
+      count = c.place_members.ensures.count ∙ ap (λ (cs : List Candidate). length cs) M;
       lines =
-          c.place-members.ensures.lines ∙
+          c.place_members.ensures.lines ∙
           ap (λ (cs : List Candidate). take c.args.filled c.args.lines.now ++ lines_from c.args.task 1 cs) M;
-      marks = c.place-members.ensures.marks ∙ ap (λ (cs : List Candidate). placed cs m) M;
+      marks = c.place_members.ensures.marks ∙ ap (λ (cs : List Candidate). placed cs m) M;
     }

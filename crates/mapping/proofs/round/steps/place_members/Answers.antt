@@ -6,7 +6,7 @@ use Rattle.mapping.specs.declared.round.Candidate.{Candidate}
 use Rattle.mapping.proofs.Placements.{led_else, led_then, lines_more, placed_more, placed_none}
 use Rattle.std.proofs.lemmas.List.{drop_all}
 use Rattle.mapping.proofs.round.steps.place_members.Goals as goal
-use Rattle.mapping.proofs.round.steps.place_members.Goals.{then-goes-with, else-goes-with}
+use Rattle.mapping.proofs.round.steps.place_members.Goals.{then-goes_with, else-goes_with}
 
 pub loop-c-preserved : goal.loop-c-preserved
 loop-c-preserved c =
@@ -17,19 +17,19 @@ loop-c-preserved c =
     let these = led l (drop i cs) in
     let rest = led l (drop (i + 1) cs) in
     let n = c.loop-c.n in
-    let n' = c.if-goes-with.n in
+    let n' = c.if-goes_with.n in
     let I = c.loop-c.invariant in
-    elim c.if-goes-with.branch [
-      | then-goes-with w ↦
-          let e : these ≡ x ∷ rest = led_then l cs i c.loop-c-test.true (sym c.goes-with.ensures ∙ w.if-goes-with.true) in
+    elim c.if-goes_with.branch [
+      | then-goes_with w ↦
+          let e : these ≡ x ∷ rest = led_then l cs i c.loop-c-test.true (sym c.goes_with.ensures ∙ w.if-goes_with.true) in
           let long : length these ≡ suc (length rest) = ap (λ (u : List Candidate). length u) e in (
             omega (arith, w.n-is, I.0),
             omega (arith, w.n-is, I.1, long),
-            lines_more c.args.task c.args.filled n n' c.loop-c.lines c.if-goes-with.lines _ x these rest w.lines-is w.n-is (omega (arith, I.0, c.requires.room)) e I.2,
+            lines_more c.args.task c.args.filled n n' c.loop-c.lines c.if-goes_with.lines _ x these rest w.lines-is w.n-is (omega (arith, I.0, c.requires.room)) e I.2,
             (let a = w.marks-is in let b = placed_more x rest c.loop-c.marks in let d = I.3 in cc),
           )
-      | else-goes-with w ↦
-          let e : these ≡ rest = led_else l cs i c.loop-c-test.true (sym c.goes-with.ensures ∙ w.if-goes-with.false) in (
+      | else-goes_with w ↦
+          let e : these ≡ rest = led_else l cs i c.loop-c-test.true (sym c.goes_with.ensures ∙ w.if-goes_with.false) in (
             omega (arith, w.n-is, I.0),
             (let a = w.n-is in let b = I.1 in cc),
             (let a = w.n-is in let a' = w.lines-is in let b = I.2 in cc),

@@ -17,48 +17,45 @@ returns-then-field-ne0 c =
     let t = rows_of c.args.self.now in
     let r = c.args.row in
     record {
-      answer = out_of_range (wrong_field kept_cost r) c.wrong-field-field.result (has_number r.number t) (length t) c.wrong-field-field.ensures c.if-field-ne0.true;
+      answer = out_of_range (wrong_field kept_cost r) c.wrong_field-field.result (has_number r.number t) (length t) c.wrong_field-field.ensures c.if-field-ne0.true;
       rows = refl;
-      continues = continues t (entry r false) (λ a. c.if-field-ne0.true (c.wrong-field-field.ensures ∙ range_right kept_cost r a.ranges)) t refl;
+      continues = continues t (entry r false) (λ a. c.if-field-ne0.true (c.wrong_field-field.ensures ∙ range_right kept_cost r a.ranges)) t refl;
     }
 
-pub returns-then-place-of-rows : goal.returns-then-place-of-rows
-returns-then-place-of-rows c =
+pub returns-then-place_of-rows : goal.returns-then-place_of-rows
+returns-then-place_of-rows c =
     let t = rows_of c.args.self.now in
     let r = c.args.row in
-    let w : wrong_field kept_cost r ≡ 0 = sym c.wrong-field-field.ensures ∙ c.if-field-ne0.false in
-    let h = does_have r.number t c.as-slice-rows.result.now c.place-of.result c.place-of.ensures c.as-slice-rows.ensures c.if-place-of-rows.true in
+    let w : wrong_field kept_cost r ≡ 0 = sym c.wrong_field-field.ensures ∙ c.if-field-ne0.false in
+    let h = does_have r.number t c.as_slice-rows.result.now c.place_of.result c.place_of.ensures c.as_slice-rows.ensures c.if-place_of-rows.true in
     record {
       answer = standing (wrong_field kept_cost r) (has_number r.number t) (length t) w h;
       rows = refl;
       continues = continues t (entry r false) (λ a. a.new (stands_from r.number t h)) t refl;
     }
 
-pub invariant-of-self : goal.invariant-of-self
-invariant-of-self c =
+pub invariant_of-self : goal.invariant_of-self
+invariant_of-self c =
     let s = c.args.self.now in
     let t = rows_of s in
     let r = c.args.row in
     let free = ltb (length t) s.rows.most in
-    let w : wrong_field kept_cost r ≡ 0 = sym c.wrong-field-field.ensures ∙ c.if-field-ne0.false in
-    let h = not_has r.number t c.as-slice-rows.result.now c.place-of.result c.place-of.ensures c.as-slice-rows.ensures c.if-place-of-rows.false in (
-      c.insert.ensures.most ∙ s.roomy,
-      (
-        every_kept row_in_range (λ x. x.deadline) free r t _ c.insert.ensures.items (eq-eqb (wrong_field kept_cost r) 0 w) s.ranges,
-        (
-          apart_kept same_number number_turns (λ x. x.deadline) free r t _ c.insert.ensures.items h s.apart,
-          (c.insert.ensures.ordered s.ordered, tt),
-        ),
-      ),
-    )
+    let w : wrong_field kept_cost r ≡ 0 = sym c.wrong_field-field.ensures ∙ c.if-field-ne0.false in
+    let h = not_has r.number t c.as_slice-rows.result.now c.place_of.result c.place_of.ensures c.as_slice-rows.ensures c.if-place_of-rows.false in
+    record {
+      roomy = c.insert.ensures.most ∙ s.roomy;
+      ranges = every_kept row_in_range (λ x. x.deadline) free r t _ c.insert.ensures.items (eq-eqb (wrong_field kept_cost r) 0 w) s.ranges;
+      apart = apart_kept same_number number_turns (λ x. x.deadline) free r t _ c.insert.ensures.items h s.apart;
+      ordered = c.insert.ensures.ordered s.ordered;
+    }
 
 pub returns-in-Ok : goal.returns-in-Ok
 returns-in-Ok c =
     let s = c.args.self.now in
     let t = rows_of s in
     let r = c.args.row in
-    let w : wrong_field kept_cost r ≡ 0 = sym c.wrong-field-field.ensures ∙ c.if-field-ne0.false in
-    let h = not_has r.number t c.as-slice-rows.result.now c.place-of.result c.place-of.ensures c.as-slice-rows.ensures c.if-place-of-rows.false in
+    let w : wrong_field kept_cost r ≡ 0 = sym c.wrong_field-field.ensures ∙ c.if-field-ne0.false in
+    let h = not_has r.number t c.as_slice-rows.result.now c.place_of.result c.place_of.ensures c.as_slice-rows.ensures c.if-place_of-rows.false in
     let free = inserted_ok (ltb (length t) s.rows.most) c.in-Ok.field-0 r c.in-Ok.ensures.answer in
     let few : length t < 128 = omega (arith, ltb-true (length t) s.rows.most free, s.roomy) in
     let e = c.in-Ok.ensures.items ∙ cond-true _ (entered r t) t free in
@@ -73,8 +70,8 @@ returns-in-Err c =
     let s = c.args.self.now in
     let t = rows_of s in
     let r = c.args.row in
-    let w : wrong_field kept_cost r ≡ 0 = sym c.wrong-field-field.ensures ∙ c.if-field-ne0.false in
-    let h = not_has r.number t c.as-slice-rows.result.now c.place-of.result c.place-of.ensures c.as-slice-rows.ensures c.if-place-of-rows.false in
+    let w : wrong_field kept_cost r ≡ 0 = sym c.wrong_field-field.ensures ∙ c.if-field-ne0.false in
+    let h = not_has r.number t c.as_slice-rows.result.now c.place_of.result c.place_of.ensures c.as_slice-rows.ensures c.if-place_of-rows.false in
     let none = inserted_err (ltb (length t) s.rows.most) c.in-Err.field-0 r c.in-Err.ensures.answer in
     let all : 128 ≤ length t = omega (arith, ltb-false (length t) s.rows.most none, s.roomy) in
     let e = c.in-Err.ensures.items ∙ cond-false _ (entered r t) t none in

@@ -30,21 +30,21 @@ module _ (n p : ℕ) (t u : List Row) (a : p ≡ place_of n u) (b : u ≡ t) whe
 pub returns-then-at-rows : goal.returns-then-at-rows
 returns-then-at-rows c =
     let n = c.args.number in
-    let p = c.place-of-at.result in
+    let p = c.place_of-at.result in
     let t = rows_of c.args.self.now in
-    let u = c.as-slice-rows.result.now in
+    let u = c.as_slice-rows.result.now in
     record {
-      value = found n p t u c.place-of-at.ensures c.as-slice-rows.ensures (omega arith);
-      stands = holds n p t u c.place-of-at.ensures c.as-slice-rows.ensures (omega arith);
+      value = found n p t u c.place_of-at.ensures c.as_slice-rows.ensures (omega arith);
+      stands = holds n p t u c.place_of-at.ensures c.as_slice-rows.ensures (omega arith);
     }
 
 pub returns-else-at-rows : goal.returns-else-at-rows
 returns-else-at-rows c =
     let n = c.args.number in
-    let p = c.place-of-at.result in
+    let p = c.place_of-at.result in
     let t = rows_of c.args.self.now in
-    let u = c.as-slice-rows.result.now in
+    let u = c.as_slice-rows.result.now in
     record {
-      value = missing n p t u c.place-of-at.ensures c.as-slice-rows.ensures (omega arith);
-      stands = absent n p t u c.place-of-at.ensures c.as-slice-rows.ensures (omega arith);
+      value = missing n p t u c.place_of-at.ensures c.as_slice-rows.ensures (omega arith);
+      stands = absent n p t u c.place_of-at.ensures c.as_slice-rows.ensures (omega arith);
     }

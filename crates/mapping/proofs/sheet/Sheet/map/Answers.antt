@@ -22,7 +22,7 @@ returns-then-room-rows g c =
     let rule = c.args.rule in
     let t = rows_of c.args.self.now in
     let n = length c.args.room.now in
-    let same = ap (λ (u : List Row). length u) c.as-slice-rows.ensures in
+    let same = ap (λ (u : List Row). length u) c.as_slice-rows.ensures in
     let is = short v rule n t (omega (arith, same, c.if-room-rows.true)) in
     record {
       answer = sym (ap (λ (o : Mapped). reply o) is);
@@ -31,10 +31,10 @@ returns-then-room-rows g c =
       continues = continues t (mapping v rule n (map_answer v rule n t)) (lawful, refl) t refl;
     }
 
-pub plan-rows-requires : goal.plan-rows-requires
-plan-rows-requires g c =
-    let rows = c.as-slice-rows.result.now in
-    let limits = subst Limits (sym c.as-slice-rows.ensures) (sheet_limits c.args.self.now) in
+pub plan_rows-requires : goal.plan_rows-requires
+plan_rows-requires g c =
+    let rows = c.as_slice-rows.result.now in
+    let limits = subst Limits (sym c.as_slice-rows.ensures) (sheet_limits c.args.self.now) in
     let few = limits.few in
     let fresh : take (length rows - 0) (replicate 128 Above) ≡ all_above rows = rw sub-zero (fresh_marks rows few) in
     record {
@@ -43,9 +43,9 @@ plan-rows-requires g c =
       room = few;
     }
 
-pub copy-lines-requires : goal.copy-lines-requires
-copy-lines-requires g c =
-    let same = ap (λ (u : List Row). length u) c.as-slice-rows.ensures in
+pub copy_lines-requires : goal.copy_lines-requires
+copy_lines-requires g c =
+    let same = ap (λ (u : List Row). length u) c.as_slice-rows.ensures in
     let limits = sheet_limits c.args.self.now in
     let p = c.in-Some.ensures in
     (omega (arith, p.1.1, same, limits.few), omega (arith, p.1.1, c.if-room-rows.false))
@@ -58,8 +58,8 @@ returns-in-None g c =
     let rule = c.args.rule in
     let t = rows_of c.args.self.now in
     let n = length c.args.room.now in
-    let same = ap (λ (u : List Row). length u) c.as-slice-rows.ensures in
-    let is = late v rule n t (omega (arith, same, c.if-room-rows.false)) (sym (ap (λ (u : List Row). plan v rule u) c.as-slice-rows.ensures) ∙ c.in-None.ensures) in
+    let same = ap (λ (u : List Row). length u) c.as_slice-rows.ensures in
+    let is = late v rule n t (omega (arith, same, c.if-room-rows.false)) (sym (ap (λ (u : List Row). plan v rule u) c.as_slice-rows.ensures) ∙ c.in-None.ensures) in
     record {
       answer = sym (ap (λ (o : Mapped). reply o) is);
       room = sym (ap (λ (o : Mapped). written o c.args.room.now) is);
@@ -76,18 +76,18 @@ returns-in-Some g c =
     let t = rows_of c.args.self.now in
     let old = c.args.room.now in
     let n = length old in
-    let same = ap (λ (u : List Row). length u) c.as-slice-rows.ensures in
+    let same = ap (λ (u : List Row). length u) c.as_slice-rows.ensures in
     let p = c.in-Some.ensures in
     let k = c.in-Some.issued.lines in
-    let ls = take k c.plan-rows.new.lines in
+    let ls = take k c.plan_rows.new.lines in
     let limits = sheet_limits c.args.self.now in
-    let long : length ls ≡ k = taken_length k c.plan-rows.new.lines (omega (arith, p.1.1, same, limits.few)) in
-    let planned : plan v rule t ≡ Some ls = sym (ap (λ (u : List Row). plan v rule u) c.as-slice-rows.ensures) ∙ p.0 in
+    let long : length ls ≡ k = taken_length k c.plan_rows.new.lines (omega (arith, p.1.1, same, limits.few)) in
+    let planned : plan v rule t ≡ Some ls = sym (ap (λ (u : List Row). plan v rule u) c.as_slice-rows.ensures) ∙ p.0 in
     let is = made v rule n t ls (omega (arith, same, c.if-room-rows.false)) planned in
     record {
       answer =
           ap (λ (x : ℕ). counts x k) p.1.0 ∙ ap (λ (x : ℕ). counts (last_task 0 ls) x) (sym long) ∙ sym (ap (λ (o : Mapped). reply o) is);
-      room = c.copy-lines.ensures ∙ ap (λ (x : ℕ). ls ++ drop x old) (sym long) ∙ sym (ap (λ (o : Mapped). written o old) is);
-      bounds = front_bounded k ls (drop k old) c.copy-lines.new.room c.copy-lines.ensures long (plan_bounded v lawful rule t limits ls planned);
+      room = c.copy_lines.ensures ∙ ap (λ (x : ℕ). ls ++ drop x old) (sym long) ∙ sym (ap (λ (o : Mapped). written o old) is);
+      bounds = front_bounded k ls (drop k old) c.copy_lines.new.room c.copy_lines.ensures long (plan_bounded v lawful rule t limits ls planned);
       continues = continues t (mapping v rule n (map_answer v rule n t)) (lawful, refl) t refl;
     }

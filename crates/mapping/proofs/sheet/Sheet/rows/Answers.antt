@@ -11,7 +11,7 @@ returns c =
     let s = c.args.self.now in
     let P : List Row → Type 0 = λ u. ascending (λ (r : Row). r.deadline) u ≡ true in
     record {
-      value = c.as-slice.ensures;
-      within = subst Limits (sym c.as-slice.ensures) (sheet_limits s);
-      ordered = subst P (sym c.as-slice.ensures) s.ordered;
+      value = c.as_slice.ensures;
+      within = subst Limits (sym c.as_slice.ensures) (sheet_limits s);
+      ordered = subst P (sym c.as_slice.ensures) s.ordered;
     }

@@ -30,29 +30,26 @@ returns-then-number-lt1 c =
           ⊎_elim (λ h. omega (arith, w.number_least, s.1.1)) (λ h. omega (arith, w.number_most, s.1.1)) c.then-number-lt1.either) t refl;
     }
 
-pub invariant-of-self : goal.invariant-of-self
-invariant-of-self c =
+pub invariant_of-self : goal.invariant_of-self
+invariant_of-self c =
     let s = c.args.self.now in
     let t = rows_of s in
-    let p = c.place-of-at.result in
-    let e = c.remove.ensures.items in (
-      c.remove.ensures.most ∙ s.roomy,
-      (
-        rw e (every_removed row_in_range t p s.ranges),
-        (
-          rw e (apart_removed same_number t p s.apart),
-          (c.remove.ensures.ordered s.ordered, tt),
-        ),
-      ),
-    )
+    let p = c.place_of-at.result in
+    let e = c.remove.ensures.items in
+    record {
+      roomy = c.remove.ensures.most ∙ s.roomy;
+      ranges = rw e (every_removed row_in_range t p s.ranges);
+      apart = rw e (apart_removed same_number t p s.apart);
+      ordered = c.remove.ensures.ordered s.ordered;
+    }
 
 pub returns-in-Some : goal.returns-in-Some
 returns-in-Some c =
     let s = c.args.self.now in
     let t = rows_of s in
     let n = c.args.number in
-    let p = c.place-of-at.result in
-    let q = place_is n p t c.as-slice.result.now c.place-of-at.ensures c.as-slice.ensures in
+    let p = c.place_of-at.result in
+    let q = place_is n p t c.as_slice.result.now c.place_of-at.ensures c.as_slice.ensures in
     let within = taken_within t p c.in-Some.row c.in-Some.ensures.value in
     let h = does_have n t t p q refl within in
     let e = c.in-Some.ensures.items ∙ ap (λ (k : ℕ). remove t k) q ∙ removed_is n t s.apart (omega arith) in
@@ -68,8 +65,8 @@ returns-in-None c =
     let s = c.args.self.now in
     let t = rows_of s in
     let n = c.args.number in
-    let p = c.place-of-at.result in
-    let q = place_is n p t c.as-slice.result.now c.place-of-at.ensures c.as-slice.ensures in
+    let p = c.place_of-at.result in
+    let q = place_is n p t c.as_slice.result.now c.place_of-at.ensures c.as_slice.ensures in
     let past = taken_none t p c.in-None.ensures.value in
     let h = not_has n t t p q refl past in
     let e = c.in-None.ensures.items ∙ removed_past t p past in

@@ -20,8 +20,8 @@ returns-then-self-len g c =
 
 pub insert-requires : goal.insert-requires
 insert-requires g c =
-    let h = first_within (λ y. ltb c.key.result (g.T.Keyed.key y)) c.as-slice.result.now in
-    let n = ap length c.as-slice.ensures in
+    let h = first_within (λ y. ltb c.key.result (g.T.Keyed.key y)) c.as_slice.result.now in
+    let n = ap length c.as_slice.ensures in
     omega (arith, c.place-at.ensures, c.args.self.now.items.ok.0)
 
 pub returns : goal.returns
@@ -29,7 +29,7 @@ returns g c =
     let free : ltb (length (vec_items c.args.self.now.items)) c.args.self.now.most ≡ true =
     lt-ltb (length (vec_items c.args.self.now.items)) c.args.self.now.most (omega (arith, c.len.ensures, c.args.self.now.items.ok.0)) in
     let at : c.place-at.result ≡ place_by g.T.Keyed.key (g.T.Keyed.key c.args.item) (vec_items c.args.self.now.items) =
-    let a = c.place-at.ensures in let b = c.as-slice.ensures in let d = c.key.ensures in cc in
+    let a = c.place-at.ensures in let b = c.as_slice.ensures in let d = c.key.ensures in cc in
     let is = inserted_is g.T.Keyed.key c.args.item (vec_items c.args.self.now.items) in
     let e : vec_items c.insert.new.self ≡ inserted_by g.T.Keyed.key c.args.item (vec_items c.args.self.now.items) =
     let i = c.in-Ok.ensures.items in cc in

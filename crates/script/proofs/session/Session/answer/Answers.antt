@@ -12,9 +12,9 @@ use Rattle.script.proofs.Keeping.{kept_from, matches_from}
 use Rattle.script.proofs.Taking.{end_room, end_taken, end_turn, next_rest, next_room, next_state, next_taken, next_turn, replied_fitting, replied_text, replied_told}
 use Rattle.script.proofs.session.Session.answer.Goals as goal
 
-pub returns-then-room-lt-LEAST-ROOM : goal.returns-then-room-lt-LEAST-ROOM
-returns-then-room-lt-LEAST-ROOM c =
-    let short = lt-ltb (length c.args.room.now) 4096 c.if-room-lt-LEAST-ROOM.true in
+pub returns-then-room-lt-LEAST_ROOM : goal.returns-then-room-lt-LEAST_ROOM
+returns-then-room-lt-LEAST_ROOM c =
+    let short = lt-ltb (length c.args.room.now) 4096 c.if-room-lt-LEAST_ROOM.true in
     record {
       answer = rw short;
       room = rw short;
@@ -24,23 +24,23 @@ returns-then-room-lt-LEAST-ROOM c =
       course = script_law c.args.self.now.reader.script.now c.args.self.now.taken;
     }
 
-pub returns-in-default : goal.returns-in-default
-returns-in-default c =
+pub returns-in_default : goal.returns-in_default
+returns-in_default c =
     let s = c.args.self.now in
     let script = s.reader.script.now in
-    let h = c.in-default.ensures in
+    let h = c.in_default.ensures in
     let e = s.rest ∙ ap lines_of h.line in
     record {
-      answer = end_turn script s.taken e (length c.args.room.now) c.if-room-lt-LEAST-ROOM.false;
-      room = end_room script s.taken e c.args.room.now c.if-room-lt-LEAST-ROOM.false;
+      answer = end_turn script s.taken e (length c.args.room.now) c.if-room-lt-LEAST_ROOM.false;
+      room = end_room script s.taken e c.args.room.now c.if-room-lt-LEAST_ROOM.false;
       within = tt;
       script = ap (λ r. r.script.now) h.moved;
-      taken = end_taken script s.taken e (length c.args.room.now) c.if-room-lt-LEAST-ROOM.false;
+      taken = end_taken script s.taken e (length c.args.room.now) c.if-room-lt-LEAST_ROOM.false;
       course = script_law c.read.new.self.script.now s.taken;
     }
 
-pub invariant-of-self-2 : goal.invariant-of-self-2
-invariant-of-self-2 c =
+pub invariant_of-self-2 : goal.invariant_of-self-2
+invariant_of-self-2 c =
     let s = c.args.self.now in
     let script = s.reader.script.now in
     let k = s.taken in
@@ -65,8 +65,8 @@ invariant-of-self-2 c =
       ),
     )
 
-pub write-outcome-bytes-requires : goal.write-outcome-bytes-requires
-write-outcome-bytes-requires c =
+pub write_outcome-bytes-requires : goal.write_outcome-bytes-requires
+write_outcome-bytes-requires c =
     let s = c.args.self.now in
     let script = s.reader.script.now in
     let k = s.taken in
@@ -74,7 +74,7 @@ write-outcome-bytes-requires c =
     let m = matches_from s.work (state_after script k) s.rows s.pairs s.charge s.margin in
     let n : length c.take-outcome.new.lines ≡ 128 = omega (arith, c.take-outcome.auto.lines) in
     record {
-      roomy = c.if-room-lt-LEAST-ROOM.false;
+      roomy = c.if-room-lt-LEAST_ROOM.false;
       early = omega (arith, s.short, s.counted, h.moved.further, h.moved.within);
       fitting =
           replied_fitting (reply_read (state_after script k) (outcome c.in-Some.read)) c.take-outcome.result c.take-outcome.new.lines n
@@ -97,15 +97,15 @@ returns c =
     subst (λ (x : Read). Replies (reply_read (state_after script k) x) c.take-outcome.result c.take-outcome.new.lines) h.value
     (c.take-outcome.ensures.reply (state_after script k) m) in
     let t = replied_text p c.take-outcome.result c.take-outcome.new.lines r (k + 1) in
-    let w = c.write-outcome-bytes.ensures.writes in
+    let w = c.write_outcome-bytes.ensures.writes in
     record {
       answer =
           ap (λ (b : ℕ). answered (k + 1) b (told_of c.take-outcome.result)) (w.0 ∙ ap length t)
           ∙ ap (λ (x : Told). answered (k + 1) (length (answer_text (k + 1) p)) x) (replied_told p c.take-outcome.result c.take-outcome.new.lines r)
-          ∙ next_turn script k y ys e (length room) c.if-room-lt-LEAST-ROOM.false;
-      room = w.1 ∙ ap (λ (x : List ℕ). x ++ drop (length x) room) t ∙ next_room script k y ys e room c.if-room-lt-LEAST-ROOM.false;
-      within = c.write-outcome-bytes.ensures.within;
+          ∙ next_turn script k y ys e (length room) c.if-room-lt-LEAST_ROOM.false;
+      room = w.1 ∙ ap (λ (x : List ℕ). x ++ drop (length x) room) t ∙ next_room script k y ys e room c.if-room-lt-LEAST_ROOM.false;
+      within = c.write_outcome-bytes.ensures.within;
       script = h.moved.script;
-      taken = next_taken script k y ys e (length room) c.if-room-lt-LEAST-ROOM.false;
+      taken = next_taken script k y ys e (length room) c.if-room-lt-LEAST_ROOM.false;
       course = script_law c.read.new.self.script.now (k + 1);
     }

@@ -7,16 +7,16 @@ use Rattle.reading.specs.Says as says
 use Rattle.script.proofs.Obeying.{sheet_obeys}
 use Rattle.script.proofs.workspace.Workspace.enter.Goals as goal
 
-pub returns-in-err-enter : goal.returns-in-err-enter
-returns-in-err-enter c =
+pub returns-in_err-enter : goal.returns-in_err-enter
+returns-in_err-enter c =
     let p = err_from_is_err_and c.from-residual.result c.from-residual.ensures.1 in
-    let h = c.in-err-enter.ensures in
+    let h = c.in_err-enter.ensures in
     rw (p.1, p.2)
-    (sheet_obeys {X = Unit {0}} c.args.self.now _ (says.row c.args.row) (enter_outcome c.args.row) (call.entry c.args.row) (Err c.in-err-enter.field-0.0) c.args.lines.now
+    (sheet_obeys {X = Unit {0}} c.args.self.now _ (says.row c.args.row) (enter_outcome c.args.row) (call.entry c.args.row) (Err c.in_err-enter.field-0.0) c.args.lines.now
     (λ s. refl) (λ s. refl) h.answer h.rows refl)
 
 pub returns : goal.returns
 returns c =
-    let h = c.in-ok-enter.ensures in
-    sheet_obeys c.args.self.now _ (says.row c.args.row) (enter_outcome c.args.row) (call.entry c.args.row) (Ok c.in-ok-enter.field-0) c.args.lines.now
+    let h = c.in_ok-enter.ensures in
+    sheet_obeys c.args.self.now _ (says.row c.args.row) (enter_outcome c.args.row) (call.entry c.args.row) (Ok c.in_ok-enter.field-0) c.args.lines.now
     (λ s. refl) (λ s. refl) h.answer h.rows refl

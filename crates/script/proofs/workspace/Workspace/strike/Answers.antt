@@ -8,16 +8,16 @@ use Rattle.reading.specs.Says as says
 use Rattle.script.proofs.Obeying.{sheet_obeys}
 use Rattle.script.proofs.workspace.Workspace.strike.Goals as goal
 
-pub returns-in-err-strike : goal.returns-in-err-strike
-returns-in-err-strike c =
+pub returns-in_err-strike : goal.returns-in_err-strike
+returns-in_err-strike c =
     let p = err_from_is_err_and c.from-residual.result c.from-residual.ensures.1 in
-    let h = c.in-err-strike.ensures in
+    let h = c.in_err-strike.ensures in
     rw (p.1, p.2)
-    (sheet_obeys {X = Row} c.args.self.now _ (says.strike c.args.number) (strike_outcome c.args.number) (call.strike c.args.number) (Err c.in-err-strike.field-0.0) c.args.lines.now
+    (sheet_obeys {X = Row} c.args.self.now _ (says.strike c.args.number) (strike_outcome c.args.number) (call.strike c.args.number) (Err c.in_err-strike.field-0.0) c.args.lines.now
     (λ s. refl) (λ s. refl) h.answer h.rows refl)
 
 pub returns : goal.returns
 returns c =
-    let h = c.in-ok-strike.ensures in
-    sheet_obeys c.args.self.now _ (says.strike c.args.number) (strike_outcome c.args.number) (call.strike c.args.number) (Ok c.in-ok-strike.field-0) c.args.lines.now
+    let h = c.in_ok-strike.ensures in
+    sheet_obeys c.args.self.now _ (says.strike c.args.number) (strike_outcome c.args.number) (call.strike c.args.number) (Ok c.in_ok-strike.field-0) c.args.lines.now
     (λ s. refl) (λ s. refl) h.answer h.rows refl

@@ -30,16 +30,16 @@ module _ (t : List Row) (k : ℕ) (ls part : List PlanLine) (e : found part ≡ 
   had (Err x) h =
       (ap (λ (y : TaskFault). refused (task_code y) (task_field y)) h.0 ∙ answer_missing t k ls part e h.1, tt)
 
-pub returns-in-err-run : goal.returns-in-err-run
-returns-in-err-run c =
+pub returns-in_err-run : goal.returns-in_err-run
+returns-in_err-run c =
     let p = err_from_is_err_and c.from-residual.result c.from-residual.ensures.1 in
     rw (p.1, p.2) (record {
-      answer = answer_refused (rows_of c.args.sheet.now) c.args.task c.args.lines.now _ _ c.in-err-run.ensures.answer;
+      answer = answer_refused (rows_of c.args.sheet.now) c.args.task c.args.lines.now _ _ c.in_err-run.ensures.answer;
       ranged = tt;
     })
 
 pub returns : goal.returns
 returns c =
-    let h = had (rows_of c.args.sheet.now) c.args.task c.args.lines.now c.in-ok-run.field-0.now
-    c.in-ok-run.ensures.answer (sheet_limits c.args.sheet.now) c.named.result c.named.ensures in
+    let h = had (rows_of c.args.sheet.now) c.args.task c.args.lines.now c.in_ok-run.field-0.now
+    c.in_ok-run.ensures.answer (sheet_limits c.args.sheet.now) c.named.result c.named.ensures in
     record { answer = h.0; ranged = h.1 }
