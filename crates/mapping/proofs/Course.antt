@@ -10,7 +10,6 @@ use Rattle.mapping.proofs.AnswerLaw.{answer_law, answer_refused, is_issued, issu
 use Rattle.mapping.proofs.Between.{entered_or_schedule, same_schedulable}
 use Rattle.mapping.proofs.OneTable.{one_table}
 use Rattle.mapping.proofs.Runs.{Runs, at, runs, runs_left, runs_right, sound_runs, table_sound, table_standing, tables_append}
-use Rattle.mapping.proofs.Standing.{standing}
 use Rattle.mapping.proofs.Tables.{Sound, sound_limits}
 
 accepted_exactly : (t : List Row) (r : Row) (b : Bool) → Answers t (entry r b) → (b ≡ true) ↔ Accepts t r

@@ -4,7 +4,7 @@ use native.Mathlib.Nat.{sub-zero}
 use Rattle.analysis.specs.Laws.{Lawful}
 use Rattle.analysis.specs.declared.row.Mark.TheVariants.{Above}
 use Rattle.analysis.specs.declared.row.Row.{Row}
-use Rattle.mapping.specs.Courses.{Limits, Mapped, issued, map_answer, mapping}
+use Rattle.mapping.specs.Courses.{Limits, Mapped, map_answer, mapping}
 use Rattle.mapping.specs.Plans.{all_above, plan}
 use Rattle.mapping.specs.Replies.{counts, last_task, reply, written}
 use Rattle.mapping.specs.Rows.{rows_of}
