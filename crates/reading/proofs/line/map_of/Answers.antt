@@ -7,7 +7,7 @@ use Rattle.reading.proofs.line.map_of.Goals as goal
 
 pub returns-in_err-analysis : goal.returns-in_err-analysis
 returns-in_err-analysis c =
-    let p = err_from_is_err_and c.from-residual.result c.from-residual.ensures.1 in
+    let p = err_from_is_err_and c.from_residual.result c.from_residual.ensures.1 in
     let told = c.in_err-analysis.ensures in
     rw p.1 (ap refusal (p.2 ∙ told.0) ∙ sym (other_fields c.args.rest 2 told.1 _), tt)
 

@@ -9,7 +9,7 @@ use Rattle.script.proofs.workspace.Workspace.enter.Goals as goal
 
 pub returns-in_err-enter : goal.returns-in_err-enter
 returns-in_err-enter c =
-    let p = err_from_is_err_and c.from-residual.result c.from-residual.ensures.1 in
+    let p = err_from_is_err_and c.from_residual.result c.from_residual.ensures.1 in
     let h = c.in_err-enter.ensures in
     rw (p.1, p.2)
     (sheet_obeys {X = Unit {0}} c.args.self.now _ (says.row c.args.row) (enter_outcome c.args.row) (call.entry c.args.row) (Err c.in_err-enter.field-0.0) c.args.lines.now

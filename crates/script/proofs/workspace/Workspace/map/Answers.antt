@@ -6,7 +6,7 @@ use Rattle.script.proofs.workspace.Workspace.map.Goals as goal
 
 pub returns-in_err-issued : goal.returns-in_err-issued
 returns-in_err-issued c =
-    let p = err_from_is_err_and c.from-residual.result c.from-residual.ensures.1 in
+    let p = err_from_is_err_and c.from_residual.result c.from_residual.ensures.1 in
     let h = c.in_err-issued.ensures in
     rw (p.1, p.2)
     (map_obeys c.args.self.now _ c.args.choice c.args.rule (Err c.in_err-issued.field-0.0) c.args.lines.now c.map.new.room

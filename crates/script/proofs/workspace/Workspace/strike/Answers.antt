@@ -10,7 +10,7 @@ use Rattle.script.proofs.workspace.Workspace.strike.Goals as goal
 
 pub returns-in_err-strike : goal.returns-in_err-strike
 returns-in_err-strike c =
-    let p = err_from_is_err_and c.from-residual.result c.from-residual.ensures.1 in
+    let p = err_from_is_err_and c.from_residual.result c.from_residual.ensures.1 in
     let h = c.in_err-strike.ensures in
     rw (p.1, p.2)
     (sheet_obeys {X = Row} c.args.self.now _ (says.strike c.args.number) (strike_outcome c.args.number) (call.strike c.args.number) (Err c.in_err-strike.field-0.0) c.args.lines.now

@@ -32,7 +32,7 @@ module _ (t : List Row) (k : ℕ) (ls part : List PlanLine) (e : found part ≡ 
 
 pub returns-in_err-run : goal.returns-in_err-run
 returns-in_err-run c =
-    let p = err_from_is_err_and c.from-residual.result c.from-residual.ensures.1 in
+    let p = err_from_is_err_and c.from_residual.result c.from_residual.ensures.1 in
     rw (p.1, p.2) (record {
       answer = answer_refused (rows_of c.args.sheet.now) c.args.task c.args.lines.now _ _ c.in_err-run.ensures.answer;
       ranged = tt;
