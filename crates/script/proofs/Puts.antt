@@ -7,8 +7,8 @@ use Rattle.std.proofs.lemmas.List.{flat_map_more, take_more, take-append-drop, d
 use Rattle.std.specs.List.{flat_map}
 use Rattle.script.specs.Answers.{line_text, Puts, Writes}
 
-pub put_mid : (room t ys : List ℕ) (p : ℕ) → ys ≡ t → put_mid p (p + length t - p) room ys ≡ take p room ++ (t ++ drop (p + length t) room)
-put_mid room t ys p e =
+pub put_mid_is : (room t ys : List ℕ) (p : ℕ) → ys ≡ t → put_mid p (p + length t - p) room ys ≡ take p room ++ (t ++ drop (p + length t) room)
+put_mid_is room t ys p e =
     let back : p + (p + length t - p) ≡ p + length t = omega arith in
     let rest : drop (p + length t - p) (drop p room) ≡ drop (p + length t) room = drop-drop (p + length t - p) p room ∙ ap (λ k. drop k room) back in
     (λ i. take p room ++ (e i ++ rest i))

@@ -6,8 +6,8 @@ use Rattle.script.specs.declared.turn.Answered.{Answered}
 use Rattle.script.proofs.Writing.{appends_none, appends_one}
 use Rattle.script.proofs.output.append_answer.Goals as goal
 
-pub returns-in_ok-append : goal.returns-in_ok-append
-returns-in_ok-append c =
+pub returns-in_ok-append-in-Some : goal.returns-in_ok-append-in-Some
+returns-in_ok-append-in-Some c =
     let s = c.args.session.now in
     let room = c.args.room.now in
     let h = c.in-Ok.ensures in
@@ -18,7 +18,7 @@ returns-in_ok-append c =
       script = h.script;
       appends =
           appends_one (script_of s) (taken_of s) a.line a.bytes (length room) (told_of a.outcome) room c.answer.new.room refl c.requires t h.room
-          (taken_of c.answer.new.self) h.taken (vec_items c.args.out.now) (vec_items c.append.new.out) c.in_ok-append.ensures;
+          (taken_of c.answer.new.self) h.taken (vec_items c.args.out.now) (vec_items c.append.new.out) c.in_ok-append-in-Some.ensures;
     }
 
 pub returns-in-None : goal.returns-in-None

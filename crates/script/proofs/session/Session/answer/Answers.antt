@@ -50,20 +50,20 @@ invariant_of-self-2 c =
     let m = matches_from s.work (state_after script k) s.rows s.pairs s.charge s.margin in
     let n = subst (λ (x : Read). Matches c.take-outcome.new.self (after_read (state_after script k) x)) h.value (c.take-outcome.ensures.after (state_after script k) m) in
     let same = h.moved.script in
-    let len = ap length same in (
-      omega (arith, s.short),
-      (
-        omega (arith, s.counted, h.moved.further),
-        (
-          omega (arith, h.moved.within),
-          (
-            ap (λ (z : List ℕ). drop (k + 1) (lines_of z)) same ∙ next_rest script k y (lines_of (left c.read.new.self)) e,
-            kept_from c.take-outcome.new.self (after_read (state_after script k) (reading_of y)) (state_after c.read.new.self.script.now (k + 1))
-                (sym (next_state script k y (lines_of (left c.read.new.self)) e) ∙ ap (λ (z : List ℕ). state_after z (k + 1)) (sym same)) n,
-          ),
-        ),
-      ),
-    )
+    let len = ap length same in
+    let kept =
+        kept_from c.take-outcome.new.self (after_read (state_after script k) (reading_of y)) (state_after c.read.new.self.script.now (k + 1))
+        (sym (next_state script k y (lines_of (left c.read.new.self)) e) ∙ ap (λ (z : List ℕ). state_after z (k + 1)) (sym same)) n in
+    record {
+      short = omega (arith, s.short);
+      counted = omega (arith, s.counted, h.moved.further);
+      within = omega (arith, h.moved.within);
+      rest = ap (λ (z : List ℕ). drop (k + 1) (lines_of z)) same ∙ next_rest script k y (lines_of (left c.read.new.self)) e;
+      rows = kept.0;
+      pairs = kept.1.0;
+      charge = kept.1.1.0;
+      margin = kept.1.1.1.0;
+    }
 
 pub write_outcome-bytes-requires : goal.write_outcome-bytes-requires
 write_outcome-bytes-requires c =
