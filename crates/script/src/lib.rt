@@ -11,7 +11,7 @@ mod turn;
 mod workspace;
 
 pub use fault::{BeginFault, Fault, SessionFault};
-pub use laws::{answers_fit, refusals_tell_faults};
+pub use laws::{answers_fit, laws_stand, refusals_tell_faults};
 pub use output::answers;
 pub use reading::{Field, Line, ReadFault, Reader, TextFault};
 pub use session::Session;

@@ -52,8 +52,8 @@ invariant_of-self-2 c =
     let same = h.moved.script in
     let len = ap length same in
     let kept =
-        kept_from c.take-outcome.new.self (after_read (state_after script k) (reading_of y)) (state_after c.read.new.self.script.now (k + 1))
-        (sym (next_state script k y (lines_of (left c.read.new.self)) e) ∙ ap (λ (z : List ℕ). state_after z (k + 1)) (sym same)) n in
+    kept_from c.take-outcome.new.self (after_read (state_after script k) (reading_of y)) (state_after c.read.new.self.script.now (k + 1))
+    (sym (next_state script k y (lines_of (left c.read.new.self)) e) ∙ ap (λ (z : List ℕ). state_after z (k + 1)) (sym same)) n in
     record {
       short = omega (arith, s.short);
       counted = omega (arith, s.counted, h.moved.further);
