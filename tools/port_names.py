@@ -2,7 +2,8 @@
 """Spells the repository's own words of specs/ and proofs/ as this Rattle's library does.
 
 Run once, at the top of the repository, after the kit's port.py: definitions, lemmas, constructors and
-record fields that were written with dashes go to snake case, types and facts to upper camel case.
+record fields that were written with dashes go to snake case, types and facts to upper camel case, and
+a word that the library took since gets the name in OTHERS.
 Names that Rattle makes of the code, names of the library, names of src/, comments and strings stay.
 It stops, and writes nothing, where two names would fall together.
 """
@@ -12,14 +13,20 @@ import re
 import sys
 
 NAME = r"[^\s(){}\[\].,;:λ·→]+"
-DASHED = re.compile(r"[^\W\d][\w'≢≡≤∀]*(?:-[\w'≢≡≤∀]+)+")
+DASHED = re.compile(r"onFirst\b|[^\W\d][\w'≢≡≤∀]*(?:-[\w'≢≡≤∀]+)+")
 BINDERS = r"((?: (?:\([^()]*\)|\{[^{}]*\}))*)"
 DEFINED = re.compile(r"^(\s*)(?:abbrev |unfoldable )?(?:pub )?(record |data )?(" + NAME + ")" + BINDERS + r" : *(\S*)", re.M)
 LET = re.compile(r"\blet (" + NAME + ") [:=]")
 ALIAS = re.compile(r"\bas ([a-z]\w*(?:-\w+)+)(?=[\s,}])")
+# Names that no rule gives: words in camel case, and a lemma that would have a name of the library.
+OTHERS = {"onFirst": "on_first", "pairs-from-getD": "pairs_from_get_or", "put-mid": "put_mid_is"}
+# The library's All goes by index now; the recursion that the texts were written with has a name of its own.
+ALL = re.compile(r"(?<![\w'.-])All(?![\w'-])")
 
 
 def new_name(name):
+    if name in OTHERS:
+        return OTHERS[name]
     if name[0].isupper():
         return "".join(part[:1].upper() + part[1:] for part in name.split("-"))
     return name.replace("-", "_")
@@ -74,12 +81,16 @@ def respell(text, own, fields, comment):
             return name
         return new_name(name)
 
+    by_recursion = "AllByRecursion as All" in text
     out = []
     for line in text.split("\n"):
         at = line.find(comment)
         code, rest = (line, "") if at < 0 else (line[:at], line[at:])
         text_line = code
-        out.append(DASHED.sub(one, code) + rest)
+        code = DASHED.sub(one, code)
+        if by_recursion:
+            code = ALL.sub("AllByRecursion", code.replace("AllByRecursion as All", "AllByRecursion"))
+        out.append(code + rest)
     return "\n".join(out)
 
 

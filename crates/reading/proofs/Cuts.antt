@@ -4,7 +4,7 @@ use native.Mathlib.Nat.{sub-zero}
 use Rattle.std.proofs.lemmas.List.{drop_all, take_all, take_rest, drop-drop}
 use Rattle.reading.specs.declared.field.Field.{Field}
 use Rattle.reading.specs.Reading.{text, spots_in, texts_in}
-use Rattle.reading.specs.Lines.{onFirst, lines_of, fields_of, spots, before, after, Spot}
+use Rattle.reading.specs.Lines.{on_first, lines_of, fields_of, spots, before, after, Spot}
 
 abbrev pub spotted : ℕ → List ℕ → Spot
 spotted p f = record { place = p; text = f }
@@ -38,17 +38,17 @@ pub line_cut : (xs : List ℕ) → 0 < length xs → lines_of xs ≡ before 10 x
 line_cut [] h = absurd (omega arith)
 line_cut (c ∷ []) h = elim (eqb c 10) as (λ t. cond t ([] ∷ []) ((c ∷ []) ∷ []) ≡ cond t [] (c ∷ []) ∷ lines_of (cond t [] [])) [ true ↦ refl | false ↦ refl ]
 line_cut (c ∷ d ∷ cs) h =
-    elim (eqb c 10) as (λ t. cond t ([] ∷ lines_of (d ∷ cs)) (onFirst c (lines_of (d ∷ cs))) ≡ cond t [] (c ∷ before 10 (d ∷ cs)) ∷ lines_of (cond t (d ∷ cs) (after 10 (d ∷ cs)))) [ true ↦ refl | false ↦ ap (onFirst c) (line_cut (d ∷ cs) (omega arith)) ]
+    elim (eqb c 10) as (λ t. cond t ([] ∷ lines_of (d ∷ cs)) (on_first c (lines_of (d ∷ cs))) ≡ cond t [] (c ∷ before 10 (d ∷ cs)) ∷ lines_of (cond t (d ∷ cs) (after 10 (d ∷ cs)))) [ true ↦ refl | false ↦ ap (on_first c) (line_cut (d ∷ cs) (omega arith)) ]
 
 pub field_some : (xs : List ℕ) → length (before 44 xs) < length xs → fields_of xs ≡ before 44 xs ∷ fields_of (after 44 xs)
 field_some [] h = absurd (omega arith)
 field_some (c ∷ cs) h =
-    (elim (eqb c 44) as (λ t. length (cond t [] (c ∷ before 44 cs)) < suc (length cs) → cond t ([] ∷ fields_of cs) (onFirst c (fields_of cs)) ≡ cond t [] (c ∷ before 44 cs) ∷ fields_of (cond t cs (after 44 cs))) [ true ↦ λ h. refl | false ↦ λ h. ap (onFirst c) (field_some cs (omega arith)) ]) h
+    (elim (eqb c 44) as (λ t. length (cond t [] (c ∷ before 44 cs)) < suc (length cs) → cond t ([] ∷ fields_of cs) (on_first c (fields_of cs)) ≡ cond t [] (c ∷ before 44 cs) ∷ fields_of (cond t cs (after 44 cs))) [ true ↦ λ h. refl | false ↦ λ h. ap (on_first c) (field_some cs (omega arith)) ]) h
 
 pub field_none : (xs : List ℕ) → length xs ≤ length (before 44 xs) → fields_of xs ≡ xs ∷ []
 field_none [] h = refl
 field_none (c ∷ cs) h =
-    (elim (eqb c 44) as (λ t. suc (length cs) ≤ length (cond t [] (c ∷ before 44 cs)) → cond t ([] ∷ fields_of cs) (onFirst c (fields_of cs)) ≡ (c ∷ cs) ∷ []) [ true ↦ λ h. absurd (omega arith) | false ↦ λ h. ap (onFirst c) (field_none cs (omega arith)) ]) h
+    (elim (eqb c 44) as (λ t. suc (length cs) ≤ length (cond t [] (c ∷ before 44 cs)) → cond t ([] ∷ fields_of cs) (on_first c (fields_of cs)) ≡ (c ∷ cs) ∷ []) [ true ↦ λ h. absurd (omega arith) | false ↦ λ h. ap (on_first c) (field_none cs (omega arith)) ]) h
 
 -- q bytes on, past the line and its byte 10 where it has one
 rest_parts : (ys : List ℕ) (n q : ℕ) → n ≡ length (before 10 ys) → ((n < length ys) × (q ≡ n + 1)) ⊎ ((length ys ≤ n) × (q ≡ n)) → drop q ys ≡ after 10 ys
@@ -89,9 +89,9 @@ field_more p xs n e h =
 pub fields_any : (xs : List ℕ) → 0 < length (fields_of xs)
 fields_any [] = omega arith
 fields_any (c ∷ cs) =
-    elim (eqb c 44) as (λ t. 0 < length (cond t ([] ∷ fields_of cs) (onFirst c (fields_of cs)))) [ true ↦ omega arith | false ↦ on (fields_of cs) ]
+    elim (eqb c 44) as (λ t. 0 < length (cond t ([] ∷ fields_of cs) (on_first c (fields_of cs)))) [ true ↦ omega arith | false ↦ on (fields_of cs) ]
   where
-    on : (ls : List (List ℕ)) → 0 < length (onFirst c ls)
+    on : (ls : List (List ℕ)) → 0 < length (on_first c ls)
     on [] = omega arith
     on (l ∷ ls) = omega arith
 

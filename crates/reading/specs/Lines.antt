@@ -2,19 +2,19 @@
 use Rattle.std.specs.Prelude.{ℕ, ◌+◌, cond, List, [], ◌∷◌, length, ◌==◌}
 
 -- the pieces with the byte c before the first of them, or c alone where there is none
-abbrev pub onFirst : ℕ → List (List ℕ) → List (List ℕ)
-onFirst c [] = (c ∷ []) ∷ []
-onFirst c (l ∷ ls) = (c ∷ l) ∷ ls
+abbrev pub on_first : ℕ → List (List ℕ) → List (List ℕ)
+on_first c [] = (c ∷ []) ∷ []
+on_first c (l ∷ ls) = (c ∷ l) ∷ ls
 
 -- the lines of a script: each ends with byte 10, which the last may lack
 abbrev pub lines_of : List ℕ → List (List ℕ)
 lines_of [] = []
-lines_of (c ∷ cs) = cond (c == 10) ([] ∷ lines_of cs) (onFirst c (lines_of cs))
+lines_of (c ∷ cs) = cond (c == 10) ([] ∷ lines_of cs) (on_first c (lines_of cs))
 
 -- the fields of a line: commas part them, so that the empty line has one field, the empty one
 abbrev pub fields_of : List ℕ → List (List ℕ)
 fields_of [] = [] ∷ []
-fields_of (c ∷ cs) = cond (c == 44) ([] ∷ fields_of cs) (onFirst c (fields_of cs))
+fields_of (c ∷ cs) = cond (c == 44) ([] ∷ fields_of cs) (on_first c (fields_of cs))
 
 -- some bytes, and the place in the script where they begin
 pub record Spot : Type 0 where
