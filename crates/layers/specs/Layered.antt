@@ -3,7 +3,6 @@ use Rattle.std.specs.Prelude.{◌≡◌, ℕ, suc, ◌+◌, ◌-◌, ◌*◌, �
 use Rattle.std.proofs.Common.{sym, ap, subst, ◌∙◌, inl, inr, arith}
 use Rattle.std.specs.List.{remove}
 use Rattle.std.proofs.lemmas.List.{get_or-map, length-map, map-append, take-map, drop-map}
-use Rattle.std.proofs.lemmas.Bool.Decides.{nat_tests}
 use Rattle.std.proofs.lemmas.Bool.{cases_Bool, cond-true, cond-false, le-leb, leb-true}
 use Rattle.analysis.specs.Answers.{Answer, answer, answer_after, checked, judged}
 use Rattle.analysis.specs.declared.question.QuestionFault.{QuestionFault}
@@ -16,7 +15,7 @@ use Rattle.analysis.specs.declared.row.Mark.TheVariants.{Below}
 use Rattle.analysis.specs.declared.row.Row.{Row}
 use Rattle.analysis.specs.declared.row.Verdict.{Verdict}
 use Rattle.analysis.specs.declared.row.Verdict.TheVariants.{OnTime, Late}
-use Rattle.analysis.proofs.Checks.{checked_fair, fair_answer, right_range}
+use Rattle.analysis.proofs.Checks.{checked_fair, fair_answer}
 use Rattle.analysis.specs.Eased.{row_removed}
 
 kept_on_time : (p d w : ℕ) (x : Verdict) → kept_within p d x ≡ OnTime w → (x ≡ OnTime w) × (w * 100 ≤ d * (100 - p))
@@ -55,7 +54,18 @@ module _ (p : ℕ) (v : Meaning) where
 
 -- a row that is raised
 raised_range : (s : ℕ) (r : Row) → InRange asked_cost r → InRange asked_cost (raised s r)
-raised_range s r h = right_range asked_cost (raised s r) (grind (arith, nat_tests))
+raised_range s r h =
+    record {
+      number_least = h.number_least;
+      number_most = h.number_most;
+      cost_least = omega (arith, h.cost_least);
+      cost_most = omega arith;
+      period_least = h.period_least;
+      period_most = h.period_most;
+      deadline_least = h.deadline_least;
+      deadline_most = h.deadline_most;
+      section_most = omega (arith, h.section_most, h.cost_most);
+    }
 
 row_raised : (s : ℕ) (t : List Row) (k : ℕ) → k < length t → row_at (map (raised s) t) k ≡ raised s (row_at t k)
 row_raised s t k l = get_or-map (raised s) t k no_row no_row l
