@@ -1,5 +1,6 @@
 -- What a question is answered with. Assumes nothing.
-use Rattle.std.specs.Prelude.{ℕ, cond, not, ◌||◌, List, [], ◌∷◌, length, Ok, Err, Result, ◌==◌, nat_lt}
+use Rattle.std.specs.Prelude.{ℕ, cond, not, ◌||◌, List, [], ◌∷◌, length, Some, None, Ok, Err, Option, Result, ◌==◌, nat_lt}
+use Rattle.std.specs.Option.{option_or}
 use Rattle.analysis.specs.Questions.{Meaning}
 use Rattle.analysis.specs.Ranges.{asked_cost, wrong_field}
 use Rattle.analysis.specs.declared.question.QuestionFault.{QuestionFault}
@@ -13,27 +14,41 @@ pub data Answer : Type 0 where
   judged : Verdict → Answer
   refused : ℕ → ℕ → Answer
 
--- the code and the field of each fault: 7 for the shape, 3 for a value out of range
+-- the code of each fault
+abbrev pub question_code : QuestionFault → ℕ
+question_code Shape = 7
+question_code (Range field) = 3
+
+-- the field that it names, 0 where it names none
+abbrev pub question_field : QuestionFault → ℕ
+question_field Shape = 0
+question_field (Range field) = field
+
+-- the code and the field of a fault
 abbrev pub code_of : QuestionFault → Answer
-code_of Shape = refused 7 0
-code_of (Range field) = refused 3 field
+code_of e = refused (question_code e) (question_field e)
 
 -- the code's answer, by what it says
 abbrev pub answer_of : Result Verdict QuestionFault → Answer
 answer_of (Ok x) = judged x
 answer_of (Err e) = code_of e
 
--- the wrong field of the first row that has one; 0 where none has
-abbrev pub first_wrong : List Row → ℕ
-first_wrong [] = 0
-first_wrong (r ∷ rs) = cond (wrong_field asked_cost r == 0) (first_wrong rs) (wrong_field asked_cost r)
+-- the wrong field of the first row that has one
+abbrev pub first_wrong : List Row → Option ℕ
+first_wrong [] = None
+first_wrong (r ∷ rs) = option_or (wrong_field asked_cost r) (first_wrong rs)
+
+-- a wrong field is a fault
+abbrev pub range_of : Option ℕ → Result (Unit {0}) QuestionFault
+range_of None = Ok tt
+range_of (Some field) = Err (Range field)
 
 -- the fault of a question, where it has one: its shape comes first, then the first row out of range
 abbrev pub checked : List Row → List Mark → ℕ → Result (Unit {0}) QuestionFault
 checked t m i =
     cond (nat_lt 128 (length t) || (not (length m == length t) || not (nat_lt i (length t))))
     (Err Shape)
-    (cond (first_wrong t == 0) (Ok tt) (Err (Range (first_wrong t))))
+    (range_of (first_wrong t))
 
 -- a verdict, unless the check found a fault
 abbrev pub answer_after : Result (Unit {0}) QuestionFault → Verdict → Answer

@@ -5,7 +5,4 @@ pub mod Answers
 pub mod Responses
 pub mod Choices
 pub mod Comparisons
-pub mod Chosen
-pub mod Eased
-pub mod Least
-pub mod Demands
+pub mod Lemmas

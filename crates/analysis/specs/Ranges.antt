@@ -1,5 +1,5 @@
 -- The ranges of a row's values. Assumes nothing.
-use Rattle.std.specs.Prelude.{ℕ, ◌≤◌, cond, ◌&&◌, nat_le}
+use Rattle.std.specs.Prelude.{ℕ, ◌≤◌, cond, ◌&&◌, Some, None, Option, nat_le}
 use Rattle.analysis.specs.declared.row.Row.{Row}
 
 -- the largest cost of a row that a sheet keeps
@@ -23,14 +23,14 @@ pub record InRange (top : ℕ) (r : Row) : Type 0 where
   pub section_most : r.section ≤ r.cost
 
 -- the field where x is not between low and high, else the rest
-abbrev between : ℕ → ℕ → ℕ → ℕ → ℕ → ℕ
-between low high x field rest = cond (nat_le low x && nat_le x high) rest field
+abbrev between : ℕ → ℕ → ℕ → ℕ → Option ℕ → Option ℕ
+between low high x field rest = cond (nat_le low x && nat_le x high) rest (Some field)
 
--- the leftmost field outside its range, counted from 1 in the order number, cost, period, deadline, section; 0 where there is none
-abbrev pub wrong_field : ℕ → Row → ℕ
+-- the leftmost field outside its range, counted from 1 in the order number, cost, period, deadline, section
+abbrev pub wrong_field : ℕ → Row → Option ℕ
 wrong_field top r =
     between 1 65535 r.number 1
     (between 1 top r.cost 2
     (between 1 1000000 r.period 3
     (between 1 r.period r.deadline 4
-    (between 0 r.cost r.section 5 0))))
+    (between 0 r.cost r.section 5 None))))

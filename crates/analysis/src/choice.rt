@@ -1,6 +1,6 @@
 //! The three analyses by name.
 ghost use Rattle.analysis.specs.Choices.{chosen};
-ghost use Rattle.analysis.specs.Chosen.{chosen_lawful};
+ghost use Rattle.analysis.specs.Lemmas.Chosen.{chosen_lawful};
 
 use crate::exact::Exact;
 use crate::linear::Linear;
@@ -19,15 +19,10 @@ pub enum Choice {
 impl Analysis for Choice {
     ghost verdict = { chosen };
 
-    ghost bounds = { λ a. (chosen_lawful a).bounds };
-
-    ghost promotion = { λ a. (chosen_lawful a).promotion };
-
-    ghost withdrawal = { λ a. (chosen_lawful a).withdrawal };
-
-    ghost own = { λ a. (chosen_lawful a).own };
+    ghost lawful = { chosen_lawful };
 
     fn ask(&self, table: &[Row], marks: &[Mark], place: usize) -> Result<Verdict, QuestionFault> {
+        // A match and no `dyn`: there are these three, and the compiler sees each call.
         match *self {
             Choice::Exact => Exact.ask(table, marks, place),
             Choice::Linear => Linear.ask(table, marks, place),

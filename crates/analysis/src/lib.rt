@@ -17,8 +17,8 @@ pub use choice::Choice;
 pub use exact::Exact;
 pub use laws::{activations_round_up, exact_is_least};
 pub use linear::Linear;
-pub use question::{Analysis, QuestionFault, check_question};
-pub use ranges::wrong_field;
+pub use question::{Analysis, MOST_ASKED_COST, MOST_ROWS, QuestionFault, check_question};
+pub use ranges::{MOST_NUMBER, wrong_field};
 pub use row::{Mark, Row, Verdict};
 pub use sections::Sections;
 

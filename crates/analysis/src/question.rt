@@ -1,8 +1,8 @@
 //! Questions about a row among others, and what answers them.
-ghost use Rattle.std.specs.Prelude.{◌≡◌, ℕ, List, MatchResult};
-ghost use Rattle.analysis.specs.Answers.{answer, answer_of, checked};
-ghost use Rattle.analysis.specs.Laws.{Bounds, OwnMark, Promotion, Withdrawal};
-ghost use Rattle.analysis.specs.Questions.{Fair};
+ghost use Rattle.std.specs.Prelude.{◌≡◌, ℕ, List, Err, IfOk, IfErr, OnOk, OnErr, MatchResult};
+ghost use Rattle.analysis.specs.Answers.{answer, answer_of, checked, question_code, question_field};
+ghost use Rattle.analysis.specs.Laws.{Lawful};
+ghost use Rattle.analysis.specs.Questions.{Fair, row_at};
 ghost use Rattle.analysis.specs.declared.row.Mark.{Mark};
 ghost use Rattle.analysis.specs.declared.row.Row.{Row};
 ghost use Rattle.analysis.specs.declared.row.Verdict.{Verdict};
@@ -19,29 +19,47 @@ pub enum QuestionFault {
     Range { field: u32 },
 }
 
+impl QuestionFault {
+    /// The code of the refusal.
+    pub fn code(self) -> u32
+        ensures { result ≡ question_code self }
+    {
+        match self {
+            QuestionFault::Shape => 7,
+            QuestionFault::Range { .. } => 3,
+        }
+    }
+
+    // No Option: 0 is the number that the rules give to "no field".
+    /// The field that the refusal names, counted from 1; 0 where it names none.
+    pub fn field(self) -> u32
+        ensures { result ≡ question_field self }
+    {
+        match self {
+            QuestionFault::Shape => 0,
+            QuestionFault::Range { field } => field,
+        }
+    }
+}
+
 /// A schedulability test of one row among rows marked above and below it.
 ///
 /// `verdict` is what it means: a function of table, marks and place alone. Every implementation owes the four laws.
 pub trait Analysis {
     ghost verdict: { Self → List Row → List Mark → ℕ → Verdict };
 
+    // Three parameters and no struct: every caller and every other implementation asks in this form.
     fn ask(&self, table: &[Row], marks: &[Mark], place: usize) -> Result<Verdict, QuestionFault>
         ensures { answer_of result ≡ answer (verdict self.now) table.now marks.now place };
 
-    ghost bounds: { (a : Self) → Bounds (verdict a) };
-
-    ghost promotion: { (a : Self) → Promotion (verdict a) };
-
-    ghost withdrawal: { (a : Self) → Withdrawal (verdict a) };
-
-    ghost own: { (a : Self) → OwnMark (verdict a) };
+    ghost lawful: { (a : Self) → Lawful (verdict a) };
 }
 
-/// The most rows in a question's table.
-const MOST_ROWS: usize = 128;
+/// The most rows in a question's table, and on a sheet.
+pub const MOST_ROWS: usize = 128;
 
 /// The largest cost of a row in a question's table.
-const MOST_COST: u32 = 1_000_001;
+pub const MOST_ASKED_COST: u32 = 1_000_001;
 
 /// Whether a question gets a verdict, the same for every analysis, and else why not.
 pub fn check_question(table: &[Row], marks: &[Mark], place: usize) -> Result<(), QuestionFault>
@@ -52,10 +70,46 @@ pub fn check_question(table: &[Row], marks: &[Mark], place: usize) -> Result<(),
         return Err(QuestionFault::Shape);
     }
     for row in table {
-        let field = wrong_field(row, MOST_COST);
-        if field != 0 {
+        if let Some(field) = wrong_field(row, MOST_ASKED_COST) {
             return Err(QuestionFault::Range { field });
         }
     }
     Ok(())
+}
+
+/// A question that gets a verdict.
+#[derive(Clone, Copy)]
+pub(crate) struct Question<'a> {
+    pub(crate) table: &'a [Row],
+    pub(crate) marks: &'a [Mark],
+    pub(crate) place: usize,
+    ghost fair: { Fair table.now marks.now place },
+}
+
+impl<'a> Question<'a> {
+    /// The question, where it gets a verdict.
+    pub(crate) fn new(
+        table: &'a [Row],
+        marks: &'a [Mark],
+        place: usize,
+    ) -> Result<Question<'a>, QuestionFault>
+        ensures question { IfOk result (λ q. (q.table.now ≡ table.now) × (q.marks.now ≡ marks.now) × (q.place ≡ place)) }
+        ensures fair { OnOk result (Fair table.now marks.now place) }
+        ensures fault { IfErr result (λ e. Err e ≡ checked table.now marks.now place) }
+        ensures unfair { OnErr result (Fair table.now marks.now place → ⊥) }
+    {
+        check_question(table, marks, place)?;
+        Ok(Question {
+            table,
+            marks,
+            place,
+        })
+    }
+
+    /// The asked row.
+    pub(crate) fn asked(&self) -> &Row
+        ensures { result.now ≡ row_at self.now.table.now self.now.place }
+    {
+        &self.table[self.place]
+    }
 }

@@ -1,7 +1,7 @@
 //! Rows, marks and verdicts.
 
 /// A runnable: its number and, in ticks, its cost, period, deadline and longest section that cannot be preempted.
-#[derive(Clone, Copy, PartialEq, Eq, Debug)]
+#[derive(Clone, Copy, PartialEq, Eq, Debug, Default)]
 pub struct Row {
     pub number: u32,
     pub cost: u32,

@@ -3,5 +3,5 @@ pub mod Held
 pub mod Lists
 pub mod Outcomes
 pub mod Piles
-pub mod Layered
-pub mod Paired
+pub mod Built
+pub mod Lemmas

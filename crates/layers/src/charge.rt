@@ -1,10 +1,13 @@
 //! Every cost raised.
-ghost use Rattle.std.specs.Prelude.{◌≡◌, ◌≤◌, map, length, take};
+ghost use Rattle.std.specs.Prelude.{◌≡◌, ◌≤◌, map, length};
 ghost use Rattle.layers.specs.Layers.{charged, raised};
-ghost use Rattle.layers.specs.Layered.{charged_bounds, charged_promotion, charged_withdrawal, charged_own};
+ghost use Rattle.layers.specs.Lemmas.Layered.{charged_lawful};
 
-use crate::ticks::Ticks;
-use analysis::{Analysis, Mark, QuestionFault, Row, Verdict, check_question};
+use crate::setting::Ticks;
+use analysis::{
+    Analysis, MOST_ASKED_COST, MOST_ROWS, Mark, QuestionFault, Row, Verdict, check_question,
+};
+use arrayvec::ArrayVec;
 
 /// Asks below about the same table with every cost raised by some ticks.
 #[derive(Drop)]
@@ -13,34 +16,24 @@ pub struct Charge<A> {
     pub below: A,
 }
 
-/// The largest cost of a row in a question's table.
-const MOST_COST: u64 = 1_000_001;
-
 /// The row with its cost raised, to no more than 1,000,001, and nothing else changed.
 fn raise(row: Row, by: Ticks) -> Row
     ensures { result ≡ raised by.value row }
 {
-    let sum = row.cost as u64 + by.value() as u64;
     Row {
-        cost: sum.min(MOST_COST) as u32,
+        cost: (row.cost as u64 + by.value() as u64).min(MOST_ASKED_COST as u64) as u32,
         ..row
     }
 }
 
-/// The rows of a table raised, at the front.
-fn raise_all(table: &[Row], by: Ticks) -> [Row; 128]
+/// The rows of a table raised.
+fn raise_all(table: &[Row], by: Ticks) -> ArrayVec<Row, MOST_ROWS>
     requires { length table.now ≤ 128 }
-    ensures { take (length table.now) result ≡ map (raised by.value) table.now }
+    ensures { result.items ≡ map (raised by.value) table.now }
 {
-    let mut rows = [Row {
-        number: 0,
-        cost: 0,
-        period: 0,
-        deadline: 0,
-        section: 0,
-    }; 128];
-    for i in 0..table.len() {
-        rows[i] = raise(table[i], by);
+    let mut rows = ArrayVec::new();
+    for row in table {
+        rows.push(raise(*row, by));
     }
     rows
 }
@@ -48,13 +41,7 @@ fn raise_all(table: &[Row], by: Ticks) -> [Row; 128]
 impl<A: Analysis> Analysis for Charge<A> {
     ghost verdict = { λ a. charged a.ticks.value (A.Analysis.verdict a.below) };
 
-    ghost bounds = { λ a. charged_bounds a.ticks.value _ (A.Analysis.bounds a.below) };
-
-    ghost promotion = { λ a. charged_promotion a.ticks.value _ (A.Analysis.promotion a.below) };
-
-    ghost withdrawal = { λ a. charged_withdrawal a.ticks.value _ (A.Analysis.withdrawal a.below) };
-
-    ghost own = { λ a. charged_own a.ticks.value _ (A.Analysis.own a.below) };
+    ghost lawful = { λ a. charged_lawful a.ticks.value _ (A.Analysis.lawful a.below) };
 
     fn ask(&self, table: &[Row], marks: &[Mark], place: usize) -> Result<Verdict, QuestionFault> {
         if self.ticks.value() == 0 {
@@ -62,6 +49,6 @@ impl<A: Analysis> Analysis for Charge<A> {
         }
         check_question(table, marks, place)?;
         let rows = raise_all(table, self.ticks);
-        self.below.ask(&rows[0..table.len()], marks, place)
+        self.below.ask(rows.as_slice(), marks, place)
     }
 }

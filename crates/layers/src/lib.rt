@@ -1,4 +1,4 @@
-//! Charge, margin and pairs: each an analysis over any analysis.
+//! Charge, margin and pairs: each an analysis over any analysis; and piles of them that are made at run time.
 
 #![tactic(auto)]
 
@@ -9,8 +9,8 @@ mod margin;
 mod pair;
 mod pair_list;
 mod pairs;
-mod percent;
-mod ticks;
+mod pile;
+mod setting;
 
 pub use charge::Charge;
 pub use fault::LayerFault;
@@ -19,8 +19,8 @@ pub use margin::Margin;
 pub use pair::Pair;
 pub use pair_list::PairList;
 pub use pairs::Pairs;
-pub use percent::Percent;
-pub use ticks::Ticks;
+pub use pile::Pile;
+pub use setting::{Percent, Setting, Ticks};
 
 #[cfg(test)]
 mod tests;

@@ -1,8 +1,9 @@
 //! A part of the deadline kept free.
-ghost use Rattle.layers.specs.Layers.{with_margin};
-ghost use Rattle.layers.specs.Layered.{margin_bounds, margin_promotion, margin_withdrawal, margin_own};
+ghost use Rattle.std.specs.Prelude.{◌≡◌};
+ghost use Rattle.layers.specs.Layers.{kept_within, with_margin};
+ghost use Rattle.layers.specs.Lemmas.Layered.{margin_lawful};
 
-use crate::percent::Percent;
+use crate::setting::Percent;
 use analysis::{Analysis, Mark, QuestionFault, Row, Verdict};
 
 /// On time only where the response below leaves so many percent of the deadline.
@@ -12,28 +13,26 @@ pub struct Margin<A> {
     pub below: A,
 }
 
+/// On time only where the response leaves so many percent of the deadline.
+fn within(percent: Percent, deadline: u32, verdict: Verdict) -> Verdict
+    ensures { result ≡ kept_within percent.value deadline verdict }
+{
+    match verdict {
+        Verdict::OnTime(response)
+            if response as u64 * 100 > deadline as u64 * (100 - percent.value()) as u64 => {
+            Verdict::Late
+        }
+        verdict => verdict,
+    }
+}
+
 impl<A: Analysis> Analysis for Margin<A> {
     ghost verdict = { λ a. with_margin a.percent.value (A.Analysis.verdict a.below) };
 
-    ghost bounds = { λ a. margin_bounds a.percent.value _ (A.Analysis.bounds a.below) };
-
-    ghost promotion = { λ a. margin_promotion a.percent.value _ (A.Analysis.promotion a.below) };
-
-    ghost withdrawal = { λ a. margin_withdrawal a.percent.value _ (A.Analysis.withdrawal a.below) };
-
-    ghost own = { λ a. margin_own a.percent.value _ (A.Analysis.own a.below) };
+    ghost lawful = { λ a. margin_lawful a.percent.value _ (A.Analysis.lawful a.below) };
 
     fn ask(&self, table: &[Row], marks: &[Mark], place: usize) -> Result<Verdict, QuestionFault> {
-        match self.below.ask(table, marks, place)? {
-            Verdict::OnTime(response) => {
-                let left = 100 - self.percent.value();
-                if response as u64 * 100 <= table[place].deadline as u64 * left as u64 {
-                    Ok(Verdict::OnTime(response))
-                } else {
-                    Ok(Verdict::Late)
-                }
-            }
-            Verdict::Late => Ok(Verdict::Late),
-        }
+        let verdict = self.below.ask(table, marks, place)?;
+        Ok(within(self.percent, table[place].deadline, verdict))
     }
 }

@@ -1,6 +1,5 @@
 //! The pairs that are held.
 ghost use Rattle.std.specs.Prelude.{◌≡◌, true};
-ghost use Rattle.ordered.specs.Keys.{ascending};
 ghost use Rattle.layers.specs.Held.{distinct_pairs, pairs_in_range};
 
 use crate::pair::Pair;
@@ -13,7 +12,6 @@ pub struct PairList {
     ghost roomy: { pairs.most ≡ 32 },
     ghost ranges: { pairs_in_range pairs.items.items ≡ true },
     ghost apart: { distinct_pairs pairs.items.items ≡ true },
-    ghost ordered: { ascending (λ p. p.upper) pairs.items.items ≡ true },
 }
 
 mod calls;

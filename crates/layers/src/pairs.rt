@@ -6,7 +6,7 @@ ghost use Rattle.analysis.specs.declared.row.Mark.TheVariants.{Below};
 ghost use Rattle.analysis.specs.declared.row.Verdict.TheVariants.{Late};
 ghost use Rattle.layers.specs.Lists.{pairs_of};
 ghost use Rattle.layers.specs.Layers.{Breaks, above_has, pair_broken, with_pairs};
-ghost use Rattle.layers.specs.Paired.{pairs_bounds, pairs_promotion, pairs_withdrawal, pairs_own};
+ghost use Rattle.layers.specs.Lemmas.Paired.{pairs_lawful};
 
 use crate::pair::Pair;
 use crate::pair_list::PairList;
@@ -19,25 +19,28 @@ pub struct Pairs<A> {
     pub below: A,
 }
 
-/// Whether a row marked above, other than the asked one, has the number.
-fn stands_above(number: u32, table: &[Row], marks: &[Mark], place: usize) -> bool
-    requires { length marks.now ≡ length table.now }
-    ensures { result ≡ above_has number table.now (slice_set marks.now place Below) }
+/// Whether a row marked above has the number.
+fn above_has(number: u32, rows: &[Row], marks: &[Mark]) -> bool
+    ensures { result ≡ above_has number rows.now marks.now }
 {
-    for i in 0..table.len() {
-        if i == place {
-            continue;
-        }
-        match marks[i] {
-            Mark::Above => {
-                if table[i].number == number {
-                    return true;
-                }
-            }
-            Mark::Below => {}
+    for (row, mark) in rows.iter().zip(marks) {
+        if *mark == Mark::Above && row.number == number {
+            return true;
         }
     }
     false
+}
+
+/// Whether a row marked above, other than the asked one, has the number.
+fn stands_above(number: u32, table: &[Row], marks: &[Mark], place: usize) -> bool
+    requires marked { length marks.now ≡ length table.now }
+    requires within { place < length table.now }
+    ensures { result ≡ above_has number table.now (slice_set marks.now place Below) }
+{
+    // Four slices as they stand: a function that cuts would hand out four that need names.
+    let next = place + 1;
+    above_has(number, &table[..place], &marks[..place])
+        || above_has(number, &table[next..], &marks[next..])
 }
 
 /// Whether a pair puts a row marked above below the asked one.
@@ -46,6 +49,7 @@ fn breaks(pairs: &[Pair], table: &[Row], marks: &[Mark], place: usize) -> bool
     requires within { place < length table.now }
     ensures { result ≡ pair_broken pairs.now (row_at table.now place).number table.now (slice_set marks.now place Below) }
 {
+    // All of them, at most 32: a search by the upper number would want them in order.
     for pair in pairs {
         if pair.upper == table[place].number && stands_above(pair.lower, table, marks, place) {
             return true;
@@ -57,13 +61,7 @@ fn breaks(pairs: &[Pair], table: &[Row], marks: &[Mark], place: usize) -> bool
 impl<A: Analysis> Analysis for Pairs<A> {
     ghost verdict = { λ a. with_pairs (pairs_of a.pairs) (A.Analysis.verdict a.below) };
 
-    ghost bounds = { λ a. pairs_bounds (pairs_of a.pairs) _ (A.Analysis.bounds a.below) };
-
-    ghost promotion = { λ a. pairs_promotion (pairs_of a.pairs) _ (A.Analysis.promotion a.below) };
-
-    ghost withdrawal = { λ a. pairs_withdrawal (pairs_of a.pairs) _ (A.Analysis.withdrawal a.below) };
-
-    ghost own = { λ a. pairs_own (pairs_of a.pairs) _ (A.Analysis.own a.below) };
+    ghost lawful = { λ a. pairs_lawful (pairs_of a.pairs) _ (A.Analysis.lawful a.below) };
 
     fn ask(&self, table: &[Row], marks: &[Mark], place: usize) -> Result<Verdict, QuestionFault>
         ensures answer { answer_of result ≡ answer (with_pairs (pairs_of self.now.pairs) (A.Analysis.verdict self.now.below)) table.now marks.now place }

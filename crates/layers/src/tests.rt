@@ -55,3 +55,16 @@ fn pairs_above_charge(rt: HostRuntime) -> Result<(), Fail> {
     );
     Ok(())
 }
+
+#[test]
+fn a_pile_is_asked_from_its_top(rt: HostRuntime) -> Result<(), Fail> {
+    let heap = rt.alloc();
+    let ticks = Ticks::new(1)?;
+    let below = Pile::Named(Choice::Linear);
+    let below = Pile::Charge(Box::new(heap, Charge { ticks, below })?);
+    assert_eq!(rt; below.ask(&TABLE, &MARKS, 0)?, Verdict::OnTime(4));
+    let percent = Percent::new(34)?;
+    let pile = Pile::Margin(Box::new(heap, Margin { percent, below })?);
+    assert_eq!(rt; pile.ask(&TABLE, &MARKS, 0)?, Verdict::Late);
+    Ok(())
+}

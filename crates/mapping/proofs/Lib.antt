@@ -29,3 +29,4 @@ pub mod Placements
 pub mod Planning
 pub mod Bounds
 pub mod Mappings
+pub mod Entered

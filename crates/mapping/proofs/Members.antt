@@ -1,5 +1,5 @@
 -- The members of a task: the candidates that the rule takes with the lead.
-use Rattle.std.proofs.Common.{◌≡◌, ℕ, ◌/◌, ◌%◌, ◌<◌, ◌≤◌, min, Bool, true, false, cond, eqb, List, [], ◌∷◌, sym, refl, ap, ◌∙◌, subst, inl, inr, div-add-mod', arith}
+use Rattle.std.proofs.Common.{◌≡◌, ℕ, ◌/◌, ◌%◌, ◌<◌, ◌≤◌, min, Bool, true, false, cond, eqb, List, [], ◌∷◌, sym, refl, ap, ◌∙◌, subst, inl, inr, div-add-mod', arith, length}
 use native.Mathlib.Nat.{mod_self, mul-mod_left}
 use Rattle.std.specs.List.{AllByRecursion}
 use Rattle.std.proofs.ByRecursion.{All-weaker}
@@ -107,6 +107,10 @@ kept_filled goes c (d ∷ ds) h =
       | false ↦ kept_filled goes d ds h
     ]
 
+filled_some : (cs : List Candidate) → Filled cs → 0 < length cs
+filled_some [] f = absurd f
+filled_some (c ∷ cs) f = omega arith
+
 takes_lead : (rule : Rule) (p : ℕ) (cs : List Candidate) → takes rule p cs p ≡ true
 takes_lead Equal p cs = eq-eqb p p refl
 takes_lead Divided p cs = eq-eqb (p % shortest_divisor p cs) 0 (divides p cs)
@@ -115,6 +119,11 @@ members_filled : (rule : Rule) (cs : List Candidate) → Filled cs → Filled (m
 members_filled rule [] h = absurd h
 members_filled rule (c ∷ cs) h =
     kept_filled (takes rule (last_of c cs).row.period (c ∷ cs)) c cs (takes_lead rule (last_of c cs).row.period (c ∷ cs))
+
+-- where there is a candidate there is a member
+pub members_some : (rule : Rule) (cs : List Candidate) → 0 < length cs → 0 < length (members rule cs)
+members_some rule [] h = absurd (omega arith)
+members_some rule (c ∷ cs) h = filled_some (members rule (c ∷ cs)) (members_filled rule (c ∷ cs) tt)
 
 pub some_member :
     (v : Meaning) (rule : Rule) (t : List Row) (m : List Mark) (i : ℕ) → IsCandidate v t m i → Filled (members rule (candidates v t m))

@@ -1,5 +1,5 @@
 -- The members of a task, one candidate after another. Assumes nothing.
-use Rattle.std.proofs.Common.{◌≡◌, ℕ, zero, suc, ◌+◌, ◌<◌, Bool, true, false, cond, List, [], ◌∷◌, ◌++◌, length, get_or, take, drop, set, refl, ap, append_assoc, add-one, arith, drop-cons}
+use Rattle.std.proofs.Common.{◌≡◌, ℕ, zero, suc, ◌+◌, ◌<◌, Bool, true, false, cond, List, [], ◌∷◌, ◌++◌, length, get_or, drop, set, refl, ap, append_assoc, add-one, arith, drop-cons}
 use Rattle.analysis.specs.declared.row.Mark.{Mark}
 use Rattle.analysis.specs.declared.row.Mark.TheVariants.{Below}
 use Rattle.mapping.specs.Plans.{has_place, lines_from, placed, placed_from}
@@ -7,7 +7,6 @@ use Rattle.mapping.specs.Rounds.{goes, led, no_candidate}
 use Rattle.mapping.specs.declared.plan.PlanLine.{PlanLine}
 use Rattle.mapping.specs.declared.round.Candidate.{Candidate}
 use Rattle.mapping.specs.declared.round.Lead.{Lead}
-use Rattle.std.proofs.lemmas.List.{take_more_set}
 use Rattle.std.proofs.lemmas.Bool.{eq-eqb, ne_eqb}
 
 -- whether the candidate at a place goes with the lead
@@ -27,20 +26,17 @@ led_else l cs i h e = rw (add-one, drop-cons cs i no_candidate, e)
 abbrev pub line : ℕ → ℕ → Candidate → PlanLine
 line task place c = record { task = task; place = place; number = c.row.number; response = c.response }
 
--- one more line behind the f + n that stand
+-- one more line behind those that stand
 pub lines_more :
-    (task f n n' : ℕ) (ls ls' all : List PlanLine) (c : Candidate) (these rest : List Candidate) → ls' ≡ set ls (f + n) (line task (n + 1) c) →
-    n' ≡ n + 1 → f + n < length ls → these ≡ c ∷ rest → take (f + n) ls ++ lines_from task (suc n) these ≡ all →
-    take (f + n') ls' ++ lines_from task (suc n') rest ≡ all
-lines_more task f n n' ls ls' all c these rest s e l t a =
-    let more = take_more_set ls (f + n) (line task (n + 1) c) l in
-    let at : f + n' ≡ f + n + 1 = omega arith in
-    let next : suc n' ≡ suc (suc n) = omega arith in
+    (task n : ℕ) (ls all : List PlanLine) (c : Candidate) (these rest : List Candidate) → these ≡ c ∷ rest →
+    ls ++ lines_from task (suc n) these ≡ all → (ls ++ line task (n + 1) c ∷ []) ++ lines_from task (suc (n + 1)) rest ≡ all
+lines_more task n ls all c these rest t a =
+    let next : suc (n + 1) ≡ suc (suc n) = omega arith in
     let here : n + 1 ≡ suc n = omega arith in
     let these_are : lines_from task (suc n) these ≡ line task (suc n) c ∷ lines_from task (suc (suc n)) rest =
     ap (λ (u : List Candidate). lines_from task (suc n) u) t in
-    let one = append_assoc (take (f + n) ls) (line task (n + 1) c ∷ []) (lines_from task (suc n') rest) in
-    let two : (line task (n + 1) c ∷ []) ++ lines_from task (suc n') rest ≡ line task (n + 1) c ∷ lines_from task (suc n') rest = refl in
+    let one = append_assoc ls (line task (n + 1) c ∷ []) (lines_from task (suc (n + 1)) rest) in
+    let two : (line task (n + 1) c ∷ []) ++ lines_from task (suc (n + 1)) rest ≡ line task (n + 1) c ∷ lines_from task (suc (n + 1)) rest = refl in
     cc
 
 -- a candidate whose place lies before k marks nothing from k on

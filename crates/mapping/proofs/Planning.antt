@@ -1,5 +1,5 @@
 -- A plan, one task after another. Assumes nothing.
-use Rattle.std.proofs.Common.{◌≡◌, ℕ, zero, suc, ◌+◌, ◌<◌, ◌≤◌, Bool, true, false, cond, ◌||◌, eqb, List, [], ◌∷◌, ◌++◌, length, Some, None, Option, sym, refl, ap, ◌∙◌, append_assoc, add-one, arith}
+use Rattle.std.proofs.Common.{◌≡◌, ℕ, zero, suc, ◌+◌, ◌-◌, ◌<◌, ◌≤◌, Bool, true, false, cond, ◌||◌, eqb, List, [], ◌∷◌, ◌++◌, length, length-append, get_or, Some, None, Option, sym, refl, ap, ◌∙◌, append_assoc, add-one, arith}
 use Rattle.analysis.specs.Questions.{Meaning}
 use Rattle.analysis.specs.declared.row.Mark.{Mark}
 use Rattle.analysis.specs.declared.row.Mark.TheVariants.{Above, Below}
@@ -8,13 +8,14 @@ use Rattle.analysis.specs.declared.row.Verdict.{Verdict}
 use Rattle.analysis.specs.declared.row.Verdict.TheVariants.{OnTime, Late}
 use Rattle.mapping.specs.Plans.{before_rest, candidates, candidates_from, has_place, if_on_time, if_unplaced, kept, last_of, lines_from, members, placed, placed_from, plan_from, takes, unplaced}
 use Rattle.mapping.specs.Replies.{last_task}
-use Rattle.mapping.specs.Rounds.{ahead}
 use Rattle.mapping.specs.declared.plan.PlanLine.{PlanLine}
 use Rattle.mapping.specs.declared.plan.Rule.{Rule}
 use Rattle.mapping.specs.declared.round.Candidate.{Candidate}
 use Rattle.mapping.proofs.Candidates.{each_candidate}
 use Rattle.mapping.proofs.Placements.{both_below, placed_none, placed_skip}
-use Rattle.std.specs.List.{AllByRecursion}
+use Rattle.mapping.specs.Lines.{no_line}
+use Rattle.std.specs.List.{AllByRecursion, slice_get}
+use Rattle.std.proofs.lemmas.Option.{slice_get-get_or}
 use Rattle.std.proofs.lemmas.Bool.{cond-false, cond-true, eq-eqb, ne_eqb, or_from}
 
 -- ---- each member takes one row off the unplaced
@@ -74,6 +75,11 @@ left_members v rule t m =
 
 -- ---- the rest of a plan
 
+-- lines before the rest of a plan
+abbrev pub ahead : List PlanLine → Option (List PlanLine) → Option (List PlanLine)
+ahead ls None = None
+ahead ls (Some rest) = Some (ls ++ rest)
+
 pub ahead_none : (p : Option (List PlanLine)) → ahead [] p ≡ p
 ahead_none None = refl
 ahead_none (Some ls) = refl
@@ -86,10 +92,6 @@ before_is : (task : ℕ) (cs : List Candidate) (p : Option (List PlanLine)) → 
 before_is task [] p h = absurd (omega arith)
 before_is task (c ∷ cs) None h = refl
 before_is task (c ∷ cs) (Some ls) h = refl
-
-before_none : (task : ℕ) (cs : List Candidate) (p : Option (List PlanLine)) → length cs ≡ 0 → before_rest task cs p ≡ None
-before_none task [] p h = refl
-before_none task (c ∷ cs) p h = absurd (omega arith)
 
 plan_step :
     (v : Meaning) (rule : Rule) (t : List Row) (task fuel fuel' : ℕ) (m : List Mark) → fuel ≡ suc fuel' → 0 < unplaced m →
@@ -119,22 +121,23 @@ plan_on v rule t task fuel fuel' m ls ls' whole e h l a i =
     ap (λ (p : Option (List PlanLine)). ahead ls p) (sym (before_is task ms rest l) ∙ sym (plan_step v rule t task fuel fuel' m e h)) in
     one ∙ two ∙ i
 
--- no task can be written
-pub plan_none :
-    (v : Meaning) (rule : Rule) (t : List Row) (task fuel fuel' : ℕ) (m : List Mark) (ls : List PlanLine) (whole : Option (List PlanLine)) →
-    fuel ≡ suc fuel' → 0 < unplaced m → length (members rule (candidates v t m)) ≡ 0 → ahead ls (plan_from fuel v rule t task m) ≡ whole → whole ≡ None
-plan_none v rule t task fuel fuel' m ls whole e h l i =
-    sym i ∙ ap (λ (p : Option (List PlanLine)). ahead ls p)
-    (plan_step v rule t task fuel fuel' m e h ∙ before_none task (members rule (candidates v t m)) _ l)
+lines_count : (task place : ℕ) (cs : List Candidate) → length (lines_from task place cs) ≡ length cs
+lines_count task place [] = refl
+lines_count task place (c ∷ cs) = ap suc (lines_count task (suc place) cs)
 
-last_append : (n : ℕ) (a b : List PlanLine) → last_task n (a ++ b) ≡ last_task (last_task n a) b
-last_append n [] b = refl
-last_append n (l ∷ a) b = last_append l.task a b
+-- a member has one line
+pub lines_length : (ls : List PlanLine) (task : ℕ) (cs : List Candidate) → length (ls ++ lines_from task 1 cs) ≡ length ls + length cs
+lines_length ls task cs = omega (arith, length-append ls (lines_from task 1 cs), lines_count task 1 cs)
 
-last_lines : (n task place : ℕ) (cs : List Candidate) → 0 < length cs → last_task n (lines_from task place cs) ≡ task
-last_lines n task place [] h = absurd (omega arith)
-last_lines n task place (c ∷ []) h = refl
-last_lines n task place (c ∷ d ∷ cs) h = last_lines task task (suc place) (d ∷ cs) (omega arith)
+last_get : (n : ℕ) (l : PlanLine) (ls : List PlanLine) → (get_or (l ∷ ls) (length ls) no_line).task ≡ last_task n (l ∷ ls)
+last_get n l [] = refl
+last_get n l (k ∷ ls) = last_get l.task k ls
 
-pub last_on : (task : ℕ) (ls : List PlanLine) (cs : List Candidate) → 0 < length cs → last_task 0 (ls ++ lines_from task 1 cs) ≡ task
-last_on task ls cs h = last_append 0 ls (lines_from task 1 cs) ∙ last_lines (last_task 0 ls) task 1 cs h
+-- the last line has the last task
+pub last_line : (ls : List PlanLine) (l : PlanLine) → Some l ≡ slice_get ls (length ls - 1) → l.task ≡ last_task 0 ls
+last_line [] l e = let z : ◌≡◌ {A = ℕ} 0 1 = cc in absurd (omega arith)
+last_line (k ∷ ls) l e =
+    let at : length (k ∷ ls) - 1 ≡ length ls = omega arith in
+    let n = slice_get-get_or (k ∷ ls) (length ls) no_line (omega arith) in
+    let s : l ≡ get_or (k ∷ ls) (length ls) no_line = cc in
+    ap (λ (x : PlanLine). x.task) s ∙ last_get 0 k ls

@@ -1,6 +1,6 @@
 -- The candidates of a round, one row after another. Assumes nothing.
-use Rattle.std.proofs.Common.{◌≡◌, ℕ, suc, ◌+◌, ◌-◌, ◌%◌, ◌<◌, ◌≤◌, min, Bool, true, false, cond, eqb, List, [], ◌∷◌, ◌++◌, length, get_or, take, drop, set, sym, refl, ap, ◌∙◌, append_assoc, add-one, arith, drop-cons}
-use Rattle.analysis.specs.Questions.{Meaning, no_row, row_at}
+use Rattle.std.proofs.Common.{◌≡◌, ℕ, suc, ◌+◌, ◌-◌, ◌%◌, ◌<◌, ◌≤◌, min, Bool, true, false, cond, eqb, List, [], ◌∷◌, ◌++◌, length, get_or, Some, drop, sym, refl, ap, ◌∙◌, append_assoc, add-one, arith, drop-cons}
+use Rattle.analysis.specs.Questions.{Fair, Meaning, no_row, row_at}
 use Rattle.analysis.specs.declared.row.Mark.{Mark}
 use Rattle.analysis.specs.declared.row.Mark.TheVariants.{Above, Below}
 use Rattle.analysis.specs.declared.row.Row.{Row}
@@ -12,8 +12,9 @@ use Rattle.mapping.specs.Plans.{candidates, candidates_from, if_on_time, if_unpl
 use Rattle.mapping.specs.Rounds.{Asked, Usable, led, no_candidate}
 use Rattle.mapping.specs.declared.round.Candidate.{Candidate}
 use Rattle.mapping.proofs.Candidates.{each_candidate}
+use Rattle.std.specs.List.{slice_get}
+use Rattle.std.proofs.lemmas.Option.{slice_get-get_or}
 use Rattle.std.proofs.ByRecursion.{All-get_or}
-use Rattle.std.proofs.lemmas.List.{take_more_set}
 use Rattle.std.proofs.lemmas.Bool.{cond-false, cond-true, eq-eqb, ne_eqb}
 
 pub candidates_more :
@@ -26,43 +27,42 @@ candidates_more ask t m k h e =
 
 -- one more is found, or none
 pub found_more :
-    (xs xs' : List Candidate) (n n' : ℕ) (c : Candidate) (these here rest all : List Candidate) → xs' ≡ set xs n c → n' ≡ n + 1 → n < length xs →
-    c ∷ [] ≡ here → these ≡ here ++ rest → take n xs ++ these ≡ all → take n' xs' ++ rest ≡ all
-found_more xs xs' n n' c these here rest all x e l h t a =
-    let b = take_more_set xs n c l in
-    let d = append_assoc (take n xs) (c ∷ []) rest in
+    (xs : List Candidate) (c : Candidate) (these here rest all : List Candidate) →
+    c ∷ [] ≡ here → these ≡ here ++ rest → xs ++ these ≡ all → (xs ++ c ∷ []) ++ rest ≡ all
+found_more xs c these here rest all h t a =
+    let d = append_assoc xs (c ∷ []) rest in
     cc
 
 pub found_none :
-    (xs xs' : List Candidate) (n n' : ℕ) (these here rest all : List Candidate) → xs' ≡ xs → n' ≡ n →
-    [] ≡ here → these ≡ here ++ rest → take n xs ++ these ≡ all → take n' xs' ++ rest ≡ all
-found_none xs xs' n n' these here rest all x e h t a =
+    (xs these here rest all : List Candidate) → [] ≡ here → these ≡ here ++ rest → xs ++ these ≡ all → xs ++ rest ≡ all
+found_none xs these here rest all h t a =
     let b : [] ++ rest ≡ rest = refl in cc
 
-pub shortest_more :
-    (p : ℕ) (cs : List Candidate) (i : ℕ) → 0 < i → i ≤ length cs →
-    shortest_divisor p (drop (i - 1) cs) ≡
-    cond (eqb (p % (get_or cs (i - 1) no_candidate).row.period) 0)
-    (min (get_or cs (i - 1) no_candidate).row.period (shortest_divisor p (drop i cs))) (shortest_divisor p (drop i cs))
-shortest_more p cs i h l =
-    let w : i - 1 < length cs = omega arith in
-    let e : suc (i - 1) ≡ i = omega arith in
-    ap (λ (u : List Candidate). shortest_divisor p u) (drop-cons cs (i - 1) no_candidate w) ∙
-    ap (λ (k : ℕ). shortest_divisor p (get_or cs (i - 1) no_candidate ∷ drop k cs)) e
+-- ---- the shortest period that divides
+
+most_step : (b : Bool) (p q r : ℕ) → r ≤ p → cond b (min q r) r ≤ p
+most_step true p q r h = omega arith
+most_step false p q r h = h
+
+pub shortest_most : (p : ℕ) (cs : List Candidate) → shortest_divisor p cs ≤ p
+shortest_most p [] = omega arith
+shortest_most p (c ∷ cs) = most_step (eqb (p % c.row.period) 0) p c.row.period (shortest_divisor p cs) (shortest_most p cs)
 
 pub shortest_then :
-    (p : ℕ) (cs : List Candidate) (i : ℕ) → 0 < i → i ≤ length cs → p % (get_or cs (i - 1) no_candidate).row.period ≡ 0 →
-    shortest_divisor p (drop (i - 1) cs) ≡ min (get_or cs (i - 1) no_candidate).row.period (shortest_divisor p (drop i cs))
-shortest_then p cs i h l e =
-    shortest_more p cs i h l ∙ cond-true _ _ _ (eq-eqb (p % (get_or cs (i - 1) no_candidate).row.period) 0 e)
+    (p : ℕ) (cs : List Candidate) (i : ℕ) → i < length cs → p % (get_or cs i no_candidate).row.period ≡ 0 →
+    shortest_divisor p (drop i cs) ≡ min (get_or cs i no_candidate).row.period (shortest_divisor p (drop (i + 1) cs))
+shortest_then p cs i h e = rw (add-one, drop-cons cs i no_candidate) (cond-true _ _ _ (eq-eqb (p % (get_or cs i no_candidate).row.period) 0 e))
 
 pub shortest_else :
-    (p : ℕ) (cs : List Candidate) (i : ℕ) → 0 < i → i ≤ length cs → (p % (get_or cs (i - 1) no_candidate).row.period ≡ 0 → ⊥) →
-    shortest_divisor p (drop (i - 1) cs) ≡ shortest_divisor p (drop i cs)
-shortest_else p cs i h l e =
-    shortest_more p cs i h l ∙ cond-false _ _ _ (ne_eqb (p % (get_or cs (i - 1) no_candidate).row.period) 0 e)
+    (p : ℕ) (cs : List Candidate) (i : ℕ) → i < length cs → (p % (get_or cs i no_candidate).row.period ≡ 0 → ⊥) →
+    shortest_divisor p (drop i cs) ≡ shortest_divisor p (drop (i + 1) cs)
+shortest_else p cs i h e = rw (add-one, drop-cons cs i no_candidate) (cond-false _ _ _ (ne_eqb (p % (get_or cs i no_candidate).row.period) 0 e))
 
 -- ---- what holds of each candidate
+
+-- each row can be asked about
+pub asked_fair : {t : List Row} {m : List Mark} {i : ℕ} → Asked t m → i < length t → Fair t m i
+asked_fair a h = record { few = a.few; marked = a.marked; within = h; ranges = a.ranges }
 
 -- those of a table of which each row can be asked about can be used
 pub usable : (v : Meaning) (t : List Row) (m : List Mark) → Asked t m → Usable (length m) (candidates v t m)
@@ -99,6 +99,13 @@ shortest_above p [] h e = h
 shortest_above p (c ∷ cs) h e =
     min_above (eqb (p % c.row.period) 0) c.row.period (shortest_divisor p cs) (e 0 (omega arith))
     (shortest_above p cs h (λ k l. e (suc k) (omega arith)))
+
+-- the last one, where there is one
+pub last_at : (cs : List Candidate) (c : Candidate) → Some c ≡ slice_get cs (length cs - 1) → (0 < length cs) × (c ≡ get_or cs (length cs - 1) no_candidate)
+last_at [] c e = let z : ◌≡◌ {A = ℕ} 0 1 = cc in absurd (omega arith)
+last_at (d ∷ cs) c e =
+    let n = slice_get-get_or (d ∷ cs) (length (d ∷ cs) - 1) no_candidate (omega arith) in
+    (omega arith, cc)
 
 last_is : (c : Candidate) (cs : List Candidate) → last_of c cs ≡ get_or (c ∷ cs) (length cs) no_candidate
 last_is c [] = refl

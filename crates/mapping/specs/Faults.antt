@@ -1,5 +1,5 @@
 -- The codes of the faults, and what the calls on a sheet answer. Assumes nothing.
-use Rattle.std.specs.Prelude.{ℕ, cond, ◌&&◌, List, length, Ok, Err, Result, ◌==◌, nat_le, nat_lt}
+use Rattle.std.specs.Prelude.{ℕ, cond, ◌&&◌, List, length, Some, None, Ok, Err, Option, Result, nat_le, nat_lt}
 use Rattle.analysis.specs.Ranges.{kept_cost, wrong_field}
 use Rattle.analysis.specs.declared.row.Row.{Row}
 use Rattle.mapping.specs.Sheets.{has_number}
@@ -46,12 +46,15 @@ abbrev pub outcome_of : {X : Type 0} → Result X SheetFault → Outcome
 outcome_of (Ok x) = accepted
 outcome_of (Err e) = refused (sheet_code e) (sheet_field e)
 
+-- refused where a field is wrong, else the rest
+abbrev pub unless_wrong : Option ℕ → Outcome → Outcome
+unless_wrong None rest = rest
+unless_wrong (Some field) rest = refused 3 field
+
 -- what an entry is answered with: its ranges come first, then its number, then whether a place is free
 abbrev pub enter_outcome : Row → List Row → Outcome
 enter_outcome r t =
-    cond (wrong_field kept_cost r == 0)
-    (cond (has_number r.number t) (refused 4 1) (cond (nat_lt (length t) 128) accepted (refused 5 0)))
-    (refused 3 (wrong_field kept_cost r))
+    unless_wrong (wrong_field kept_cost r) (cond (has_number r.number t) (refused 4 1) (cond (nat_lt (length t) 128) accepted (refused 5 0)))
 
 -- what a strike is answered with: the number's range comes first, then whether it stands
 abbrev pub strike_outcome : ℕ → List Row → Outcome

@@ -1,13 +1,10 @@
 -- The steps of a round of the mapping, as the code takes them. Assumes nothing.
-use Rattle.std.specs.Prelude.{◌≡◌, ℕ, ◌%◌, ◌<◌, ◌≤◌, Bool, List, ◌++◌, length, take, Some, None, Option, ◌==◌, slice_index_or}
+use Rattle.std.specs.Prelude.{◌≡◌, ℕ, ◌%◌, ◌<◌, ◌≤◌, Bool, List, length, ◌==◌, slice_index_or}
 use Rattle.analysis.specs.Questions.{no_row, row_at}
 use Rattle.analysis.specs.Ranges.{InRange, asked_cost}
 use Rattle.analysis.specs.declared.row.Mark.{Mark}
 use Rattle.analysis.specs.declared.row.Row.{Row}
 use Rattle.mapping.specs.Plans.{kept}
-use Rattle.mapping.specs.Replies.{last_task}
-use Rattle.mapping.specs.declared.plan.Issued.{Issued}
-use Rattle.mapping.specs.declared.plan.PlanLine.{PlanLine}
 use Rattle.mapping.specs.declared.plan.Rule.{Rule}
 use Rattle.mapping.specs.declared.plan.Rule.TheVariants.{Equal, Divided}
 use Rattle.mapping.specs.declared.round.Candidate.{Candidate}
@@ -36,13 +33,3 @@ pub record Asked (t : List Row) (m : List Mark) : Type 0 where
 pub record Usable (n : ℕ) (cs : List Candidate) : Type 0 where
   pub places : (k : ℕ) → k < length cs → (slice_index_or cs k no_candidate).at < n
   pub periods : (k : ℕ) → k < length cs → 0 < (slice_index_or cs k no_candidate).row.period
-
--- lines before the rest of a plan
-abbrev pub ahead : List PlanLine → Option (List PlanLine) → Option (List PlanLine)
-ahead ls None = None
-ahead ls (Some rest) = Some (ls ++ rest)
-
--- a plan that stands at the front of some lines with its counts, or none
-abbrev pub Planned : Option Issued → Option (List PlanLine) → List PlanLine → ℕ → Type 0
-Planned None p ls n = p ≡ None
-Planned (Some i) p ls n = (p ≡ Some (take i.lines ls)) × ((i.tasks ≡ last_task 0 (take i.lines ls)) × (i.lines ≤ n))

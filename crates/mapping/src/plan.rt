@@ -1,7 +1,7 @@
 //! Plans.
 
 /// One row's line of a plan: its task and place, its number, and its response in ticks.
-#[derive(Clone, Copy, PartialEq, Eq, Debug)]
+#[derive(Clone, Copy, PartialEq, Eq, Debug, Default)]
 pub struct PlanLine {
     pub task: u32,
     pub place: u32,

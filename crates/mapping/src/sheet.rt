@@ -1,7 +1,6 @@
 //! The sheet.
 ghost use Rattle.std.specs.Prelude.{◌≡◌, true};
 ghost use Rattle.mapping.specs.Sheets.{distinct, in_ranges};
-ghost use Rattle.ordered.specs.Keys.{ascending};
 
 use analysis::Row;
 use ordered::Kept;
@@ -16,5 +15,4 @@ pub struct Sheet {
     ghost roomy: { rows.most ≡ 128 },
     ghost ranges: { in_ranges rows.items.items ≡ true },
     ghost apart: { distinct rows.items.items ≡ true },
-    ghost ordered: { ascending (λ r. r.deadline) rows.items.items ≡ true },
 }

@@ -3,7 +3,7 @@ use Rattle.std.proofs.Common.{◌≡◌, ℕ, zero, suc, ◌<◌, ◌≤◌, Boo
 use Rattle.ordered.specs.Keys.{Inserted, ascending, from_key, inserted_by, place_by}
 use Rattle.std.specs.List.{insert, remove, AllByRecursion}
 use Rattle.std.proofs.lemmas.List.{append-nil, drop_all, take_all}
-use Rattle.std.proofs.lemmas.Bool.{and_from, and_parts, le-leb, leb-true, ltb-true, ltb-false}
+use Rattle.std.proofs.lemmas.Bool.{and_from, and_parts, cond_both, le-leb, leb-true, ltb-true, ltb-false}
 
 -- nothing is taken out past the end
 pub removed_past : {X : Type 0} (xs : List X) (i : ℕ) → length xs ≤ i → remove xs i ≡ xs
@@ -38,11 +38,18 @@ module _ {X : Type 0} (key : X → ℕ) where
       and_from (from_key key (key y) (inserted_by key x ys)) (ascending key (inserted_by key x ys))
       (from_inserted (key y) x ys f (ltb-false (key x) (key y) e)) s
 
-  pub ascending_inserted : (x : X) (xs : List X) → ascending key xs ≡ true → ascending key (inserted_by key x xs) ≡ true
+  ascending_inserted : (x : X) (xs : List X) → ascending key xs ≡ true → ascending key (inserted_by key x xs) ≡ true
   ascending_inserted x [] a = refl
   ascending_inserted x (y ∷ ys) a =
       let p = and_parts (from_key key (key y) ys) (ascending key ys) a in
       ascending_step x y ys (ltb (key x) (key y)) refl p.0 p.1 (ascending_inserted x ys p.1)
+
+  -- a vector's insertion at the place of the key keeps the order, whether there was memory or not
+  pub ascending_kept :
+      (free : Bool) (x : X) (xs ys : List X) (p : ℕ) → ys ≡ cond free (insert xs p x) xs → p ≡ place_by key (key x) xs →
+      ascending key xs ≡ true → ascending key ys ≡ true
+  ascending_kept free x xs ys p e at a =
+      rw e (cond_both free (insert xs p x) xs (λ l. ascending key l ≡ true) (λ _. rw (at, inserted_is x xs) (ascending_inserted x xs a)) (λ _. a))
 
   from_lower : (k l : ℕ) (ys : List X) → k ≤ l → from_key key l ys ≡ true → from_key key k ys ≡ true
   from_lower k l [] h f = refl

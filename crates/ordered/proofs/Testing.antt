@@ -1,9 +1,9 @@
 -- Tests of the elements: at a place, and with one element more or fewer. Assumes nothing.
-use Rattle.std.proofs.Common.{◌≡◌, ℕ, zero, suc, ◌+◌, ◌<◌, ◌≤◌, Bool, true, false, cond, not, ◌&&◌, ◌||◌, ltb, List, [], ◌∷◌, length, get_or, drop, sym, refl, ◌∙◌, ⊎_elim, add-one, arith, drop-cons}
+use Rattle.std.proofs.Common.{◌≡◌, ℕ, zero, suc, ◌+◌, ◌<◌, ◌≤◌, Bool, true, false, cond, not, ◌&&◌, ◌||◌, ltb, List, [], ◌∷◌, length, get_or, sym, refl, ◌∙◌, ⊎_elim, arith}
 use Rattle.ordered.specs.Keys.{inserted_by}
-use Rattle.ordered.specs.Tests.{apart, every, first_place, some}
+use Rattle.ordered.specs.Tests.{apart, first_place}
 use Rattle.std.proofs.lemmas.Bool.{and_from, and_parts, cases_lt, cond_both, le-ltb, lt-ltb, not_from_false, not-true, or_parts}
-use Rattle.std.specs.List.{remove}
+use Rattle.std.specs.List.{list_all, list_any, position_or_len, remove}
 
 module _ {X : Type 0} (test : X → Bool) where
   -- ---- the first place
@@ -16,14 +16,14 @@ module _ {X : Type 0} (test : X → Bool) where
   first_within [] = omega arith
   first_within (y ∷ ys) = first_within_step (test y) (first_place test ys) (length ys) (first_within ys)
 
-  -- a search from the front that stands at i: the element there passes, or not
-  pub first_here : (xs : List X) (i : ℕ) (y d : X) → i < length xs → y ≡ get_or xs i d → test y ≡ true → first_place test (drop i xs) ≡ 0
-  first_here xs i y d h e l = rw (drop-cons xs i d, ← e, l)
+  first_place_step : (b : Bool) (p : ℕ) → cond b 0 (suc p) ≡ cond (not b) (1 + p) 0
+  first_place_step true p = refl
+  first_place_step false p = omega arith
 
-  pub first_past :
-      (xs : List X) (i : ℕ) (y d : X) → i < length xs → y ≡ get_or xs i d → test y ≡ false →
-      first_place test (drop i xs) ≡ suc (first_place test (drop (i + 1) xs))
-  first_past xs i y d h e l = rw (add-one, drop-cons xs i d, ← e, l)
+  -- it is what the library calls the position or the length
+  pub first_place_is : (xs : List X) → first_place test xs ≡ position_or_len test xs
+  first_place_is [] = refl
+  first_place_is (y ∷ ys) = rw (first_place_is ys) (first_place_step (test y) (position_or_len test ys))
 
   first_passes_step :
       (b : Bool) (y : X) (ys : List X) (d : X) → test y ≡ b → (first_place test ys < length ys → test (get_or ys (first_place test ys) d) ≡ true) →
@@ -42,52 +42,52 @@ module _ {X : Type 0} (test : X → Bool) where
       (λ h. le-ltb p n h ∙ sym (le-ltb (suc p) (suc n) (omega arith))) (cases_lt p n)
 
   -- some element passes exactly where the first place is within the list
-  pub some_is : (xs : List X) → some test xs ≡ ltb (first_place test xs) (length xs)
+  pub some_is : (xs : List X) → list_any test xs ≡ ltb (first_place test xs) (length xs)
   some_is [] = refl
-  some_is (y ∷ ys) = some_is_step (test y) (some test ys) (first_place test ys) (length ys) (some_is ys)
+  some_is (y ∷ ys) = some_is_step (test y) (list_any test ys) (first_place test ys) (length ys) (some_is ys)
 
   -- ---- every element
 
-  pub every_at : (xs : List X) (k : ℕ) (d : X) → k < length xs → every test xs ≡ true → test (get_or xs k d) ≡ true
+  pub every_at : (xs : List X) (k : ℕ) (d : X) → k < length xs → list_all test xs ≡ true → test (get_or xs k d) ≡ true
   every_at [] k d h e = absurd (omega arith)
-  every_at (y ∷ ys) zero d h e = (and_parts (test y) (every test ys) e).0
-  every_at (y ∷ ys) (suc k) d h e = every_at ys k d (omega arith) (and_parts (test y) (every test ys) e).1
+  every_at (y ∷ ys) zero d h e = (and_parts (test y) (list_all test ys) e).0
+  every_at (y ∷ ys) (suc k) d h e = every_at ys k d (omega arith) (and_parts (test y) (list_all test ys) e).1
 
-  every_inserted : (key : X → ℕ) (x : X) (xs : List X) → test x ≡ true → every test xs ≡ true → every test (inserted_by key x xs) ≡ true
+  every_inserted : (key : X → ℕ) (x : X) (xs : List X) → test x ≡ true → list_all test xs ≡ true → list_all test (inserted_by key x xs) ≡ true
   every_inserted key x [] a e = and_from (test x) true a refl
   every_inserted key x (y ∷ ys) a e =
-      let p = and_parts (test y) (every test ys) e in
-      cond_both (ltb (key x) (key y)) (x ∷ y ∷ ys) (y ∷ inserted_by key x ys) (λ l. every test l ≡ true)
-      (λ _. and_from (test x) (test y && every test ys) a e)
-      (λ _. and_from (test y) (every test (inserted_by key x ys)) p.0 (every_inserted key x ys a p.1))
+      let p = and_parts (test y) (list_all test ys) e in
+      cond_both (ltb (key x) (key y)) (x ∷ y ∷ ys) (y ∷ inserted_by key x ys) (λ l. list_all test l ≡ true)
+      (λ _. and_from (test x) (test y && list_all test ys) a e)
+      (λ _. and_from (test y) (list_all test (inserted_by key x ys)) p.0 (every_inserted key x ys a p.1))
 
   -- after an insertion that may be refused
   pub every_kept :
-      (key : X → ℕ) (free : Bool) (x : X) (xs ys : List X) → ys ≡ cond free (inserted_by key x xs) xs → test x ≡ true → every test xs ≡ true →
-      every test ys ≡ true
+      (key : X → ℕ) (free : Bool) (x : X) (xs ys : List X) → ys ≡ cond free (inserted_by key x xs) xs → test x ≡ true → list_all test xs ≡ true →
+      list_all test ys ≡ true
   every_kept key free x xs ys e a h =
-      rw e (cond_both free (inserted_by key x xs) xs (λ l. every test l ≡ true) (λ _. every_inserted key x xs a h) (λ _. h))
+      rw e (cond_both free (inserted_by key x xs) xs (λ l. list_all test l ≡ true) (λ _. every_inserted key x xs a h) (λ _. h))
 
-  pub every_removed : (xs : List X) (i : ℕ) → every test xs ≡ true → every test (remove xs i) ≡ true
+  pub every_removed : (xs : List X) (i : ℕ) → list_all test xs ≡ true → list_all test (remove xs i) ≡ true
   every_removed [] zero e = refl
   every_removed [] (suc i) e = refl
-  every_removed (y ∷ ys) zero e = (and_parts (test y) (every test ys) e).1
+  every_removed (y ∷ ys) zero e = (and_parts (test y) (list_all test ys) e).1
   every_removed (y ∷ ys) (suc i) e =
-      let p = and_parts (test y) (every test ys) e in
-      and_from (test y) (every test (remove ys i)) p.0 (every_removed ys i p.1)
+      let p = and_parts (test y) (list_all test ys) e in
+      and_from (test y) (list_all test (remove ys i)) p.0 (every_removed ys i p.1)
 
-  pub none_every : (xs : List X) → some test xs ≡ false → every (λ x. not (test x)) xs ≡ true
+  pub none_every : (xs : List X) → list_any test xs ≡ false → list_all (λ x. not (test x)) xs ≡ true
   none_every [] e = refl
   none_every (y ∷ ys) e =
-      let p = or_parts (test y) (some test ys) e in
-      and_from (not (test y)) (every (λ x. not (test x)) ys) (not_from_false (test y) p.0) (none_every ys p.1)
+      let p = or_parts (test y) (list_any test ys) e in
+      and_from (not (test y)) (list_all (λ x. not (test x)) ys) (not_from_false (test y) p.0) (none_every ys p.1)
 
 -- ---- no two elements
 
 module _ {X : Type 0} (same : X → X → Bool) where
   -- every element is another than y
   abbrev others : X → List X → Bool
-  others y ys = every (λ z. not (same y z)) ys
+  others y ys = list_all (λ z. not (same y z)) ys
 
   apart_inserted :
       ((a b : X) → same a b ≡ false → same b a ≡ false) → (key : X → ℕ) (x : X) (xs : List X) → others x xs ≡ true → apart same xs ≡ true →
@@ -105,7 +105,7 @@ module _ {X : Type 0} (same : X → X → Bool) where
   -- after an insertion that may be refused
   pub apart_kept :
       ((a b : X) → same a b ≡ false → same b a ≡ false) → (key : X → ℕ) (free : Bool) (x : X) (xs ys : List X) →
-      ys ≡ cond free (inserted_by key x xs) xs → some (same x) xs ≡ false → apart same xs ≡ true → apart same ys ≡ true
+      ys ≡ cond free (inserted_by key x xs) xs → list_any (same x) xs ≡ false → apart same xs ≡ true → apart same ys ≡ true
   apart_kept turn key free x xs ys e n h =
       rw e (cond_both free (inserted_by key x xs) xs (λ l. apart same l ≡ true)
       (λ _. apart_inserted turn key x xs (none_every (same x) xs n) h) (λ _. h))

@@ -1,15 +1,6 @@
 -- Tests of the elements of a list, for what a kept list holds. Assumes nothing.
-use Rattle.std.specs.Prelude.{ℕ, suc, Bool, true, false, cond, not, ◌&&◌, ◌||◌, List, [], ◌∷◌}
-
--- every element passes the test
-abbrev pub every : {X : Type 0} → (X → Bool) → List X → Bool
-every test [] = true
-every test (y ∷ ys) = test y && every test ys
-
--- some element passes the test
-abbrev pub some : {X : Type 0} → (X → Bool) → List X → Bool
-some test [] = false
-some test (y ∷ ys) = test y || some test ys
+use Rattle.std.specs.Prelude.{ℕ, suc, Bool, true, cond, not, ◌&&◌, List, [], ◌∷◌}
+use Rattle.std.specs.List.{list_all}
 
 -- the place of the first element that passes the test; the length where none does
 abbrev pub first_place : {X : Type 0} → (X → Bool) → List X → ℕ
@@ -19,4 +10,4 @@ first_place test (y ∷ ys) = cond (test y) 0 (suc (first_place test ys))
 -- no element is the same as a later one
 abbrev pub apart : {X : Type 0} → (X → X → Bool) → List X → Bool
 apart same [] = true
-apart same (y ∷ ys) = every (λ z. not (same y z)) ys && apart same ys
+apart same (y ∷ ys) = list_all (λ z. not (same y z)) ys && apart same ys

@@ -13,25 +13,15 @@ pub trait Keyed {
         ensures { result ≡ key self.now };
 }
 
-/// Where an element of this key goes: before the first of a greater one.
-fn place<T: Keyed>(items: &[T], key: u32) -> usize
-    ensures { result ≡ place_by T.Keyed.key key items.now }
-{
-    for (i, x) in items.iter().enumerate() {
-        if key < x.key() {
-            return i;
-        }
-    }
-    items.len()
-}
-
-/// At most `most` elements, each put into its place by key; their memory is reserved at the start.
+/// At most `most` elements by ascending key, each put into its place; their memory is reserved at the start.
 #[derive(Drop)]
 pub struct Kept<T: Keyed> {
     items: Vec<T>,
+    // Not a const parameter: that would ask callers to know it when they compile.
     most: usize,
     ghost within: { vec_len items ≤ most },
     ghost reserved: { most ≤ vec_capacity items },
+    ghost ordered: { ascending T.Keyed.key items.items ≡ true },
 }
 
 impl<T: Keyed> Kept<T> {
@@ -45,9 +35,18 @@ impl<T: Keyed> Kept<T> {
 
     /// The elements, by ascending key.
     pub fn as_slice(&self) -> &[T]
-        ensures { result.now ≡ self.now.items.items }
+        ensures value { result.now ≡ self.now.items.items }
+        ensures ordered { ascending T.Keyed.key result.now ≡ true }
     {
         self.items.as_slice()
+    }
+
+    /// Where an element of this key goes: before the first of a greater one.
+    fn place(&self, key: u32) -> usize
+        ensures value { result ≡ place_by T.Keyed.key key self.now.items.items }
+        ensures within { result ≤ length self.now.items.items }
+    {
+        self.items.partition_point(|x| x.key() <= key)
     }
 
     /// Puts an element into its place by key; a full list hands it back and stays as it was.
@@ -55,13 +54,12 @@ impl<T: Keyed> Kept<T> {
         ensures answer { result ≡ (if nat_lt (length self.old.items.items) self.old.most then Ok tt else Err item) }
         ensures items { self.new.items.items ≡ (if nat_lt (length self.old.items.items) self.old.most then inserted_by T.Keyed.key item self.old.items.items else self.old.items.items) }
         ensures most { self.new.most ≡ self.old.most }
-        ensures ordered { ascending T.Keyed.key self.old.items.items ≡ true → ascending T.Keyed.key self.new.items.items ≡ true }
-        ensures law { ascending T.Keyed.key self.old.items.items ≡ true → Inserted T.Keyed.key item self.old.items.items (inserted_by T.Keyed.key item self.old.items.items) }
+        ensures law { Inserted T.Keyed.key item self.old.items.items (inserted_by T.Keyed.key item self.old.items.items) }
     {
         if self.most <= self.items.len() {
             return Err(item);
         }
-        let at = place(self.as_slice(), item.key());
+        let at = self.place(item.key());
         match self.items.insert(at, item) {
             Ok(()) => Ok(()),
             Err(_) => unreachable(),
@@ -73,7 +71,6 @@ impl<T: Keyed> Kept<T> {
         ensures value { result ≡ slice_get self.old.items.items at }
         ensures items { self.new.items.items ≡ remove self.old.items.items at }
         ensures most { self.new.most ≡ self.old.most }
-        ensures ordered { ascending T.Keyed.key self.old.items.items ≡ true → ascending T.Keyed.key self.new.items.items ≡ true }
     {
         if at >= self.items.len() {
             return None;

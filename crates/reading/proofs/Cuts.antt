@@ -1,7 +1,9 @@
 -- Where a list is cut at its first b. Assumes nothing.
-use Rattle.std.proofs.Common.{◌≡◌, ℕ, suc, ◌+◌, ◌-◌, ◌<◌, ◌≤◌, true, false, cond, eqb, ◌⊎◌, List, [], ◌∷◌, map, length, take, drop, Some, None, Option, sym, refl, ap, ◌∙◌, inl, inr, ⊎_elim, add-one, arith, length-drop}
-use native.Mathlib.Nat.{sub-zero}
-use Rattle.std.proofs.lemmas.List.{drop_all, take_all, take_rest, drop-drop}
+use Rattle.std.proofs.Common.{◌≡◌, ℕ, suc, ◌+◌, ◌-◌, ◌<◌, ◌≤◌, true, false, cond, eqb, List, [], ◌∷◌, map, length, take, drop, position, ◌==◌, Some, None, Option, sym, refl, ap, ◌∙◌, add-one, arith, length-drop}
+use Rattle.std.specs.List.{position_or_len}
+use Rattle.std.proofs.lemmas.List.Recursion.{is_position_or_len}
+use Rattle.std.proofs.lemmas.Bool.Decides.{nat_tests}
+use Rattle.std.proofs.lemmas.List.{drop_all, take_rest, drop-drop}
 use Rattle.reading.specs.declared.field.Field.{Field}
 use Rattle.reading.specs.Reading.{text, spots_in, texts_in}
 use Rattle.reading.specs.Lines.{on_first, lines_of, fields_of, spots, before, after, Spot}
@@ -10,12 +12,6 @@ abbrev pub spotted : ℕ → List ℕ → Spot
 spotted p f = record { place = p; text = f }
 
 module _ (b : ℕ) where
-  pub before_le : (xs : List ℕ) → length (before b xs) ≤ length xs
-  before_le [] = omega arith
-  before_le (c ∷ cs) =
-      let more = before_le cs in
-      elim (eqb c b) as (λ t. length (cond t [] (c ∷ before b cs)) ≤ suc (length cs)) [ true ↦ omega arith | false ↦ omega arith ]
-
   pub take_before : (xs : List ℕ) → take (length (before b xs)) xs ≡ before b xs
   take_before [] = refl
   take_before (c ∷ cs) =
@@ -34,6 +30,20 @@ module _ (b : ℕ) where
   after_none (c ∷ cs) h =
       (elim (eqb c b) as (λ t. suc (length cs) ≤ length (cond t [] (c ∷ before b cs)) → (cond t [] (c ∷ before b cs) ≡ c ∷ cs) × (cond t cs (after b cs) ≡ [])) [ true ↦ λ h. absurd (omega arith) | false ↦ λ h. let p = after_none cs (omega arith) in (ap (λ l. c ∷ l) p.0, p.1) ]) h
 
+-- what `position` tells of the first b
+module _ (b : ℕ) (xs : List ℕ) where
+  counts : length (before b xs) ≡ position_or_len (λ x. x == b) xs
+  counts = is_position_or_len (λ l. length (before b l)) (λ x. x == b) refl step xs
+    where
+      step : (x : ℕ) (l : List ℕ) → length (before b (x ∷ l)) ≡ cond (x == b) 0 (1 + length (before b l))
+      step x l = elim (eqb x b) as (λ t. length (cond t [] (x ∷ before b l)) ≡ cond t 0 (1 + length (before b l))) [ true ↦ refl | false ↦ omega arith ]
+
+  pub found : (n : ℕ) → Some n ≡ position (λ x. x == b) xs → (n ≡ length (before b xs)) × (n < length xs)
+  found n e = let m = counts in grind (arith, nat_tests, m, e)
+
+  pub missing : None ≡ position (λ x. x == b) xs → length xs ≤ length (before b xs)
+  missing e = let m = counts in grind (arith, nat_tests, m, e)
+
 pub line_cut : (xs : List ℕ) → 0 < length xs → lines_of xs ≡ before 10 xs ∷ lines_of (after 10 xs)
 line_cut [] h = absurd (omega arith)
 line_cut (c ∷ []) h = elim (eqb c 10) as (λ t. cond t ([] ∷ []) ((c ∷ []) ∷ []) ≡ cond t [] (c ∷ []) ∷ lines_of (cond t [] [])) [ true ↦ refl | false ↦ refl ]
@@ -50,41 +60,51 @@ field_none [] h = refl
 field_none (c ∷ cs) h =
     (elim (eqb c 44) as (λ t. suc (length cs) ≤ length (cond t [] (c ∷ before 44 cs)) → cond t ([] ∷ fields_of cs) (on_first c (fields_of cs)) ≡ (c ∷ cs) ∷ []) [ true ↦ λ h. absurd (omega arith) | false ↦ λ h. ap (on_first c) (field_none cs (omega arith)) ]) h
 
--- q bytes on, past the line and its byte 10 where it has one
-rest_parts : (ys : List ℕ) (n q : ℕ) → n ≡ length (before 10 ys) → ((n < length ys) × (q ≡ n + 1)) ⊎ ((length ys ≤ n) × (q ≡ n)) → drop q ys ≡ after 10 ys
-rest_parts ys n q e way =
-    ⊎_elim
-    (λ w. rw (w.1, e) (drop_before 10 ys))
-    (λ w. rw w.1 (drop_all n ys w.0 ∙ sym (after_none 10 ys (omega arith)).1)) way
+-- front is the line at the place p, which a reader goes q bytes on to leave
+pub record NextLine (xs : List ℕ) (p : ℕ) (front : List ℕ) (q : ℕ) : Type 0 where
+  pub text : front ≡ before 10 (drop p xs)
+  pub rest : drop (p + q) xs ≡ after 10 (drop p xs)
+  pub further : 0 < q
+  pub within : p + q ≤ length xs
 
--- the line of n bytes at the place p, and the q bytes that the reader goes on
-module _ (xs : List ℕ) (p n : ℕ) (e : n ≡ length (before 10 (take (length xs - p) (drop p xs)))) where
-  same_length : n ≡ length (before 10 (drop p xs))
-  same_length = e ∙ ap (λ l. length (before 10 l)) (take_rest xs p)
+module _ (xs : List ℕ) (p : ℕ) (h : p < length xs) where
+  whole : take (length xs - p) (drop p xs) ≡ drop p xs
+  whole = take_rest xs p
 
-  pub next_text : take (n - 0) (take (length xs - p) (drop p xs)) ≡ before 10 (drop p xs)
-  next_text =
-      let whole : take (length xs - p) (drop p xs) ≡ drop p xs = take_rest xs p in
-      let long : n - 0 ≡ length (before 10 (drop p xs)) = sub-zero n ∙ same_length in
-      (λ i. take (long i) (whole i)) ∙ take_before 10 (drop p xs)
+  long : length (drop p xs) ≡ length xs - p
+  long = length-drop p xs
 
-  pub next_rest : (q : ℕ) → ((n < length xs - p) × (q ≡ n + 1)) ⊎ ((length xs - p ≤ n) × (q ≡ n)) → drop (p + q) xs ≡ after 10 (drop p xs)
-  next_rest q way =
-      let long : length (drop p xs) ≡ length xs - p = length-drop p xs in
-      sym (drop-drop q p xs) ∙ rest_parts (drop p xs) n q same_length (⊎_elim (λ w. inl (omega arith, w.1)) (λ w. inr (omega arith, w.1)) way)
+  pub line_found : (n : ℕ) → Some n ≡ position (λ x. x == 10) (take (length xs - p) (drop p xs)) → NextLine xs p (take n (take (length xs - p) (drop p xs))) (n + 1)
+  line_found n e =
+      let at = found 10 (drop p xs) n (rw whole at e) in
+      record {
+        text = rw (whole, at.0) (take_before 10 (drop p xs));
+        rest = sym (drop-drop (n + 1) p xs) ∙ rw at.0 (drop_before 10 (drop p xs));
+        further = omega arith;
+        within = omega (arith, long);
+      }
 
-  pub next_line : (q : ℕ) → p < length xs → ((n < length xs - p) × (q ≡ n + 1)) ⊎ ((length xs - p ≤ n) × (q ≡ n)) → lines_of (drop p xs) ≡ take (n - 0) (take (length xs - p) (drop p xs)) ∷ lines_of (drop (p + q) xs)
-  next_line q h way =
-      let front = next_text in
-      let back = next_rest q way in
-      line_cut (drop p xs) (omega (arith, length-drop p xs)) ∙ sym (λ i. front i ∷ lines_of (back i))
+  pub line_missing : None ≡ position (λ x. x == 10) (take (length xs - p) (drop p xs)) → NextLine xs p (take (length xs - p) (drop p xs)) (length (take (length xs - p) (drop p xs)))
+  line_missing e =
+      let none = after_none 10 (drop p xs) (missing 10 (drop p xs) (rw whole at e)) in
+      let all : length (take (length xs - p) (drop p xs)) ≡ length xs - p = ap length whole ∙ long in
+      record {
+        text = whole ∙ sym none.0;
+        rest = drop_all _ xs (omega (arith, all)) ∙ sym none.1;
+        further = omega (arith, all);
+        within = omega (arith, all);
+      }
 
-pub field_last : (p : ℕ) (xs : List ℕ) (n : ℕ) → n ≡ length (before 44 xs) → n ≡ length xs → spotted p (take (n - 0) xs) ∷ [] ≡ spots p (fields_of xs)
-field_last p xs n e h = rw (sub-zero n) (rw (field_none xs (omega arith)) (ap (λ l. spotted p l ∷ []) (take_all n xs (omega arith))))
+  pub lines_after : (front : List ℕ) (q : ℕ) → NextLine xs p front q → lines_of (drop p xs) ≡ front ∷ lines_of (drop (p + q) xs)
+  lines_after front q k = line_cut (drop p xs) (omega (arith, long)) ∙ sym (λ i. k.text i ∷ lines_of (k.rest i))
 
-pub field_more : (p : ℕ) (xs : List ℕ) (n : ℕ) → n ≡ length (before 44 xs) → n < length xs → spotted p (take (n - 0) xs) ∷ spots (p + n + 1) (fields_of (take (length xs - (n + 1)) (drop (n + 1) xs))) ≡ spots p (fields_of xs)
-field_more p xs n e h =
-    rw (sub-zero n, take_rest xs (n + 1)) (rw (field_some xs (omega arith)) (rw e (rw (take_before 44 xs, drop_before 44 xs) refl)))
+pub field_missing : (p : ℕ) (xs : List ℕ) → None ≡ position (λ x. x == 44) xs → spotted p xs ∷ [] ≡ spots p (fields_of xs)
+field_missing p xs e = rw (field_none xs (missing 44 xs e)) refl
+
+pub field_found : (p : ℕ) (xs : List ℕ) (n : ℕ) → Some n ≡ position (λ x. x == 44) xs → spotted p (take n xs) ∷ spots (p + n + 1) (fields_of (take (length xs - (n + 1)) (drop (n + 1) xs))) ≡ spots p (fields_of xs)
+field_found p xs n e =
+    let at = found 44 xs n e in
+    rw (take_rest xs (n + 1)) (rw (field_some xs (omega arith)) (rw at.0 (rw (take_before 44 xs, drop_before 44 xs) refl)))
 
 pub fields_any : (xs : List ℕ) → 0 < length (fields_of xs)
 fields_any [] = omega arith
@@ -94,10 +114,6 @@ fields_any (c ∷ cs) =
     on : (ls : List (List ℕ)) → 0 < length (on_first c ls)
     on [] = omega arith
     on (l ∷ ls) = omega arith
-
-pub length_spots : (p : ℕ) (fs : List (List ℕ)) → length (spots p fs) ≡ length fs
-length_spots p [] = refl
-length_spots p (f ∷ fs) = ap suc (length_spots (p + length f + 1) fs)
 
 pub texts_spots : (p : ℕ) (fs : List (List ℕ)) → map (λ s. s.text) (spots p fs) ≡ fs
 texts_spots p [] = refl

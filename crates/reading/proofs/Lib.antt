@@ -1,5 +1,5 @@
 pub mod Cuts
-pub mod Steps
 pub mod Checks
 pub mod Joins
 pub mod Texts
+pub mod Spelled

@@ -1,5 +1,6 @@
 -- Number fields and the texts of numbers. Assumes nothing.
 use Rattle.std.proofs.Common.{◌≡◌, ℕ, ◌+◌, ◌-◌, ◌*◌, ◌^◌, ◌<◌, ◌≤◌, Bool, true, false, cond, ◌&&◌, List, [], ◌∷◌, length, get_or, Some, None, decimal, Option, unwrap_or, sym, refl, ap, ◌∙◌, ⊎_elim, arith, rules}
+use native.Mathlib.Nat.{pow-le-pow_right}
 use Rattle.std.proofs.lemmas.Fmt.{digits_decimal, digits_value-decimal, length-decimal-le, decimal_nonempty, first_decimal, decimal_digit, decimal-digits_value}
 use Rattle.std.proofs.lemmas.Str.Parse.{IsNumeralModel, numerals_by_fold, digits_value_short}
 use Rattle.std.proofs.lemmas.Bool.{cond-true, cases_eq, and_parts}
@@ -65,3 +66,12 @@ value_below bs = by (number bs) refl
     by : (o : Option ℕ) → number bs ≡ o → unwrap_or o 0 < 10 ^ 7
     by None e = omega arith
     by (Some n) e = (number_texts bs n e).0
+
+-- what the loop of `number_of` has read of a number field stays small
+pub ten_fits : (bs : List ℕ) (v i : ℕ) → true ≡ sized bs → v < 10 ^ i → i < length bs → v < 1000000
+ten_fits bs v i s h k =
+    let short : length bs ≤ 7 = grind (arith, nat_tests, s) in
+    let below : i ≤ 6 = omega arith in
+    let ten : 0 < 10 = omega arith in
+    let p : 10 ^ i ≤ 10 ^ 6 = pow-le-pow_right ten below in
+    omega arith

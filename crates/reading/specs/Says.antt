@@ -1,5 +1,5 @@
 -- What a line says, or its refusal. Assumes nothing.
-use Rattle.std.specs.Prelude.{◌≡◌, ℕ, ◌+◌, cond, List, [], ◌∷◌, length, is_some, IfOk, Some, None, Ok, Err, codes, Option, Result, MatchResult, ◌==◌, ◌≢◌, slice_index_or}
+use Rattle.std.specs.Prelude.{◌≡◌, ℕ, ◌+◌, cond, List, [], ◌∷◌, map, length, is_some, IfOk, Some, None, Ok, Err, codes, Option, Result, MatchResult, ◌==◌, ◌≢◌, slice_index_or}
 use Rattle.std.specs.Str.{bytes_eq}
 use Rattle.analysis.specs.declared.choice.Choice.{Choice}
 use Rattle.analysis.specs.declared.choice.Choice.TheVariants.{Exact, Linear, Sections}
@@ -9,6 +9,8 @@ use Rattle.mapping.specs.declared.plan.Rule.TheVariants.{Equal, Divided}
 use Rattle.reading.specs.Lines.{Spot, fields_of}
 use Rattle.reading.specs.Numbers.{number, value}
 use Rattle.reading.specs.Reading.{text, spot, spots_in, texts_in}
+use Rattle.reading.specs.declared.fault.ReadFault.{ReadFault}
+use Rattle.reading.specs.declared.fault.ReadFault.TheVariants.{TooLong}
 use Rattle.reading.specs.declared.fault.TextFault.{TextFault}
 use Rattle.reading.specs.declared.fault.TextFault.TheVariants.{Form, Number}
 use Rattle.reading.specs.declared.field.Field.{Field}
@@ -108,10 +110,23 @@ said (l.Charge s) = charge (value (text s))
 said (l.Margin p) = margin (value (text p))
 said (l.Map a c g r) = mapping c r
 
+-- the code of a script that is not read
+abbrev pub read_code : ReadFault → ℕ
+read_code TooLong = 13
+
+-- the code of a line that is not read
+abbrev pub text_code : TextFault → ℕ
+text_code Form = 1
+text_code (Number k) = 2
+
+-- the field that it names, 0 where it names none
+abbrev pub text_field : TextFault → ℕ
+text_field Form = 0
+text_field (Number k) = k
+
 -- the code and the field of a fault
 abbrev pub refusal : TextFault → Read
-refusal Form = refused 1 0
-refusal (Number k) = refused 2 k
+refusal e = refused (text_code e) (text_field e)
 
 -- what the code's answer says
 abbrev pub outcome : Result Line TextFault → Read
@@ -127,10 +142,6 @@ passed (Err e) x = refusal e
 abbrev pub FieldsAs : {T : Type 0} → ℕ → (T → List Spot) → Option Field → Result T TextFault → Type 0
 FieldsAs n at o r = MatchResult r (λ t. spots_in o ≡ at t) (λ e. (e ≡ Form) × (length (spots_in o) ≢ n))
 
--- the same of n number fields, after which any x may be read
-abbrev pub NumbersAs : {T : Type 0} → ℕ → (T → List Spot) → Option Field → Result T TextFault → Type 0
-NumbersAs n at o r = ((x : Read) → counted n (texts_in o) (numbered 1 (texts_in o) x) ≡ passed r x) × IfOk r (λ t. spots_in o ≡ at t)
-
 -- the fields of a line stand at these spots
 abbrev pub Stands : List Spot → Line → Type 0
 Stands ss (l.Row n c p d s) = ss ≡ spot n ∷ spot c ∷ spot p ∷ spot d ∷ spot s ∷ []
@@ -140,6 +151,10 @@ Stands ss (l.Charge s) = ss ≡ spot s ∷ []
 Stands ss (l.Margin p) = ss ≡ spot p ∷ []
 Stands ss (l.Map a c g r) = ss ≡ spot a ∷ spot g ∷ []
 
--- r is what the fields after a word say, and its fields stand where those do
+-- r is what the fields fs after a word say, and its fields stand where those do
+abbrev pub LineOf : Word → List Field → Result Line TextFault → Type 0
+LineOf v fs r = (outcome r ≡ reads v (map text fs)) × IfOk r (λ l. Stands (map spot fs) l)
+
+-- the same of what is left of a line after its word
 abbrev pub LineAs : Word → Option Field → Result Line TextFault → Type 0
 LineAs v o r = (outcome r ≡ reads v (texts_in o)) × IfOk r (λ l. Stands (spots_in o) l)

@@ -16,6 +16,7 @@ pub use field::Field;
 pub use laws::reading_laws_stand;
 pub use line::Line;
 pub use reader::Reader;
+pub use words::{choice_of, rule_of};
 
 #[cfg(test)]
 mod tests;

@@ -1,17 +1,18 @@
 //! The lines of a script, by kind.
-ghost use Rattle.std.specs.Prelude.{◌≡◌, drop, IfOk, Some};
+ghost use Rattle.std.specs.Prelude.{◌≡◌, ◌<◌, [], ◌∷◌, drop, length, map, IfOk};
 ghost use Rattle.reading.specs.Reading.{text, spots_in, Inside};
-ghost use Rattle.reading.specs.Says.{reading_of, outcome, LineAs, Stands};
+ghost use Rattle.reading.specs.Says.{reading_of, outcome, numbered, says, said, LineAs, LineOf, Stands};
 
 use crate::fault::TextFault;
 use crate::field::{Field, first_field};
-use crate::fields::{five_numbers, one_number, two_fields, two_numbers};
+use crate::fields::{check, fields_in};
 use crate::words::{Word, choice_of, rule_of, word_of};
 use analysis::Choice;
+use arrayvec::ArrayVec;
 use mapping::Rule;
 
 /// A line that is well formed, with its fields after the word as they stand in the script.
-#[derive(Clone, Copy)]
+#[derive(Clone, Copy, PartialEq, Eq, Debug)]
 pub enum Line<'a> {
     /// Enters a row.
     Row {
@@ -47,18 +48,12 @@ pub enum Line<'a> {
     },
 }
 
-/// The line `map` of the fields after its word.
-fn map_of<'a>(rest: Option<Field<'a>>) -> Result<Line<'a>, TextFault>
-    requires { Inside rest }
-    ensures { LineAs Word.Map rest.entry result }
+/// The line `map` of the two fields after its word.
+fn map_of<'a>(analysis: Field<'a>, grouping: Field<'a>) -> Result<Line<'a>, TextFault>
+    ensures { LineOf Word.Map (analysis.entry ∷ grouping.entry ∷ []) result }
 {
-    let (analysis, grouping) = two_fields(rest)?;
-    let Some(choice) = choice_of(analysis.bytes) else {
-        return Err(TextFault::Form);
-    };
-    let Some(rule) = rule_of(grouping.bytes) else {
-        return Err(TextFault::Form);
-    };
+    let choice = choice_of(analysis.bytes).ok_or(TextFault::Form)?;
+    let rule = rule_of(grouping.bytes).ok_or(TextFault::Form)?;
     Ok(Line::Map {
         analysis,
         choice,
@@ -67,51 +62,56 @@ fn map_of<'a>(rest: Option<Field<'a>>) -> Result<Line<'a>, TextFault>
     })
 }
 
-/// The line that a word and the fields after it make.
-fn kind_of<'a>(word: Word, rest: Option<Field<'a>>) -> Result<Line<'a>, TextFault>
-    requires { Inside rest }
-    ensures { LineAs word rest.entry result }
+/// The line, where the fields are number fields.
+fn of_numbers<'a>(fields: &ArrayVec<Field<'a>, 5>, line: Line<'a>) -> Result<Line<'a>, TextFault>
+    ensures value { outcome result ≡ numbered 1 (map text fields.now.items) (says (said line.entry)) }
+    ensures same { IfOk result (λ l. l ≡ line.entry) }
 {
-    match word {
-        Word::Row => {
-            let (number, cost, period, deadline, section) = five_numbers(rest)?;
-            Ok(Line::Row {
+    check(fields.as_slice())?;
+    Ok(line)
+}
+
+/// The line that a word and the fields after it make.
+fn kind_of<'a>(word: Word, fields: &ArrayVec<Field<'a>, 5>) -> Result<Line<'a>, TextFault>
+    ensures { LineOf word fields.now.items result }
+{
+    match (word, fields.as_slice()) {
+        (Word::Row, &[number, cost, period, deadline, section]) => of_numbers(
+            fields,
+            Line::Row {
                 number,
                 cost,
                 period,
                 deadline,
                 section,
-            })
-        }
-        Word::Strike => {
-            let number = one_number(rest)?;
-            Ok(Line::Strike { number })
-        }
-        Word::Pair => {
-            let (u, l) = two_numbers(rest)?;
-            Ok(Line::Pair { u, l })
-        }
-        Word::Charge => {
-            let s = one_number(rest)?;
-            Ok(Line::Charge { s })
-        }
-        Word::Margin => {
-            let p = one_number(rest)?;
-            Ok(Line::Margin { p })
-        }
-        Word::Map => map_of(rest),
+            },
+        ),
+        (Word::Strike, &[number]) => of_numbers(fields, Line::Strike { number }),
+        (Word::Pair, &[u, l]) => of_numbers(fields, Line::Pair { u, l }),
+        (Word::Charge, &[s]) => of_numbers(fields, Line::Charge { s }),
+        (Word::Margin, &[p]) => of_numbers(fields, Line::Margin { p }),
+        (Word::Map, &[analysis, grouping]) => map_of(analysis, grouping),
+        _ => Err(TextFault::Form),
     }
 }
 
+/// The line that a word and what is left after it make.
+fn line_of<'a>(word: Word, rest: Option<Field<'a>>) -> Result<Line<'a>, TextFault>
+    requires { Inside rest }
+    ensures { LineAs word rest.entry result }
+{
+    let fields = fields_in(rest)?;
+    kind_of(word, &fields)
+}
+
 /// A line by its kind, or why it is refused.
+#[tactic(auto, using(crate::proofs::Checks::line_of))]
 pub(crate) fn read_line<'a>(line: Field<'a>) -> Result<Line<'a>, TextFault>
     requires { Inside (Some line) }
     ensures value { outcome result ≡ reading_of (text line.entry) }
     ensures places { IfOk result (λ l. Stands (drop 1 (spots_in (Some line.entry))) l) }
 {
     let (word, rest) = first_field(line);
-    match word_of(word.bytes) {
-        Some(kind) => kind_of(kind, rest),
-        None => Err(TextFault::Form),
-    }
+    let word = word_of(word.bytes).ok_or(TextFault::Form)?;
+    line_of(word, rest)
 }

@@ -6,11 +6,11 @@ ghost use Rattle.reading.specs.Numbers.{number, sized};
 fn is_sized(field: &[u8]) -> bool
     ensures { result ≡ sized field.now }
 {
-    let n = field.len();
-    1 <= n && n <= 7 && (n == 1 || field[0] != b'0')
+    (1..=7).contains(&field.len()) && (field.len() == 1 || field[0] != b'0')
 }
 
 /// The value of a number field: 1 to 7 digits, with no zero in front unless it is 0 alone.
+#[tactic(auto, using(crate::proofs::Texts::ten_fits))]
 pub(crate) fn number_of(field: &[u8]) -> Option<u32>
     ensures { result ≡ number field.now }
 {
@@ -19,10 +19,7 @@ pub(crate) fn number_of(field: &[u8]) -> Option<u32>
     }
     let mut value = 0;
     for b in field {
-        if !b.is_ascii_digit() {
-            return None;
-        }
-        value = value * 10 + u32::from(*b - b'0');
+        value = value * 10 + char::from(*b).to_digit(10)?;
     }
     Some(value)
 }

@@ -12,6 +12,7 @@ use crate::line::{Line, read_line};
 const MOST_BYTES: usize = 65_536;
 
 /// A script, of which the lines before `place` have been read.
+// Not the rest alone: the contracts say how far a reader has come in the whole script.
 #[derive(Drop)]
 pub struct Reader<'a> {
     pub(crate) script: &'a [u8],
@@ -40,12 +41,16 @@ impl<'a> Reader<'a> {
             return None;
         }
         let rest = &self.script[self.place..];
-        let n = find(rest, b'\n');
+        let (bytes, read) = match find(rest, b'\n') {
+            Some(n) => (&rest[..n], n + 1),
+            None => (rest, rest.len()),
+        };
         let line = Field {
-            bytes: &rest[0..n],
+            bytes,
             place: self.place,
         };
-        self.place += if n < rest.len() { n + 1 } else { n };
+        // No loop counts here: the place is how far the reader has come.
+        self.place += read;
         Some(line)
     }
 
@@ -56,9 +61,6 @@ impl<'a> Reader<'a> {
         ensures places { IfSome result (λ q. IfOk q (λ l. Stands (drop 1 (fields_at (next_spot self.old))) l)) }
         ensures moved { MatchOption result (self.new ≡ self.old) (λ _. Advances self.old self.new) }
     {
-        match self.next_line() {
-            Some(line) => Some(read_line(line)),
-            None => None,
-        }
+        self.next_line().map(read_line)
     }
 }

@@ -1,6 +1,7 @@
 -- Between a plan and a later code 12 under alike piles, a row line was accepted. Assumes nothing.
-use Rattle.std.proofs.Common.{◌≡◌, ℕ, zero, suc, ◌+◌, ◌-◌, ◌<◌, Bool, true, List, [], ◌∷◌, ◌++◌, take, drop, Some, None, Option, sym, refl, ap, ◌∙◌, subst, arith}
+use Rattle.std.proofs.Common.{◌≡◌, ℕ, zero, suc, ◌+◌, ◌-◌, ◌<◌, ◌≤◌, Bool, true, List, [], ◌∷◌, ◌++◌, take, drop, Some, None, Option, sym, refl, ap, ◌∙◌, subst, add-zero, arith}
 use Rattle.std.proofs.lemmas.List.{append_assoc, append-nil, take-take}
+use Rattle.std.proofs.Math.Seq.{take-add}
 use Rattle.std.specs.List.{slice_get}
 use Rattle.analysis.specs.declared.choice.Choice.{Choice}
 use Rattle.analysis.specs.declared.row.Row.{Row}
@@ -16,6 +17,7 @@ use Rattle.reading.specs.Says as said
 use Rattle.script.specs.Sessions as reply
 use Rattle.script.specs.Sessions.{LineAt, Reply, RowBetween, State, accepts, after_read, by_mapping, by_sheet, mapped, pile_of, planned, read_of, reply_read, reply_to, runs, silent, standing, start, state_after}
 use Rattle.script.proofs.Coursing.{script_law}
+use Rattle.script.proofs.Taking.{nth_drop, runs_append}
 
 -- ---- the calls that lines add
 
@@ -55,15 +57,18 @@ grows s (l ∷ ls) =
 
 -- ---- an accepted entry among them is a row line
 
--- a line that says the row and is accepted
-abbrev Found : State → List (List ℕ) → Row → Type 0
-Found s ls r =
-    (m : ℕ) × ((l : List ℕ) × ((slice_get ls m ≡ Some l) × ((reading_of l ≡ says (said.row r)) × (reply_read (runs s (take m ls)) (reading_of l) ≡ silent))))
+-- the line at a place says the row and is accepted
+record Found (s : State) (ls : List (List ℕ)) (r : Row) : Type 0 where
+  place : ℕ
+  line : List ℕ
+  stands : slice_get ls place ≡ Some line
+  reads : reading_of line ≡ says (said.row r)
+  accepted_there : reply_read (runs s (take place ls)) (reading_of line) ≡ silent
 
 later : (s : State) (l : List ℕ) (ls : List (List ℕ)) (r : Row) (x : Read) → x ≡ reading_of l → Found (after_read s x) ls r → Found s (l ∷ ls) r
 later s l ls r x e f =
     let g : Found (after_read s (reading_of l)) ls r = subst (λ (z : Read). Found (after_read s z) ls r) e f in
-    (suc g.0, (g.1.0, (g.1.1.0, (g.1.1.1.0, g.1.1.1.1))))
+    record { place = suc g.place; line = g.line; stands = g.stands; reads = g.reads; accepted_there = g.accepted_there }
 
 accepted_silent : (o : Outcome) → accepts o ≡ true → by_sheet o ≡ silent
 accepted_silent accepted e = refl
@@ -73,19 +78,14 @@ here : (s : State) (l : List ℕ) (ls : List (List ℕ)) (q r : Row) (b : Bool) 
     entry q b ≡ entry r true → Found s (l ∷ ls) r
 here s l ls q r b e a h =
     let same : q ≡ r = cc in
-    let yes : b ≡ true = cc in (
-      0,
-      (
-        l,
-        (
-          refl,
-          (
-            sym e ∙ ap (λ (z : Row). says (said.row z)) same,
-            ap (reply_read s) (sym e) ∙ accepted_silent (enter_outcome q (standing s)) (sym a ∙ yes),
-          ),
-        ),
-      ),
-    )
+    let yes : b ≡ true = cc in
+    record {
+      place = 0;
+      line = l;
+      stands = refl;
+      reads = sym e ∙ ap (λ (z : Row). says (said.row z)) same;
+      accepted_there = ap (reply_read s) (sym e) ∙ accepted_silent (enter_outcome q (standing s)) (sym a ∙ yes);
+    }
 
 -- a list that begins with one call, cut before an accepted entry
 first : (e : Event) (es before since : List Event) (r : Row) (P : Type 0) → e ∷ es ≡ before ++ entry r true ∷ since →
@@ -125,31 +125,14 @@ entry_line s (l ∷ ls) r before since h =
 
 -- ---- places of lines
 
-nth_drop : (xs : List (List ℕ)) (a m k : ℕ) → k ≡ a + m → slice_get (drop a xs) m ≡ slice_get xs k
-nth_drop xs zero m k e = let z : m ≡ k = omega arith in ap (slice_get xs) z
-nth_drop [] (suc a) m k e = refl
-nth_drop (x ∷ xs) (suc a) m k e = let z : suc (a + m) ≡ k = omega arith in nth_drop xs a m (a + m) refl ∙ ap (slice_get (x ∷ xs)) z
-
 nth_take : (xs : List (List ℕ)) (n m : ℕ) (l : List ℕ) → slice_get (take n xs) m ≡ Some l → (m < n) × (slice_get xs m ≡ Some l)
 nth_take xs zero m l e = let z : ◌≡◌ {A = ℕ} 0 1 = cc in absurd (omega arith)
 nth_take [] (suc n) m l e = let z : ◌≡◌ {A = ℕ} 0 1 = cc in absurd (omega arith)
 nth_take (x ∷ xs) (suc n) zero l e = (omega arith, e)
 nth_take (x ∷ xs) (suc n) (suc m) l e = let r = nth_take xs n m l e in (omega arith, r.1)
 
-take_nil : (n : ℕ) → ◌≡◌ {A = List (List ℕ)} (take n []) []
-take_nil zero = refl
-take_nil (suc n) = refl
-
-take_add : (xs : List (List ℕ)) (a n k : ℕ) → k ≡ a + n → take k xs ≡ take a xs ++ take n (drop a xs)
-take_add xs zero n k e = let z : k ≡ n = omega arith in ap (λ (j : ℕ). take j xs) z
-take_add [] (suc a) n k e = take_nil k ∙ sym (take_nil n)
-take_add (x ∷ xs) (suc a) n k e =
-    let z : k ≡ suc (a + n) = omega arith in
-    ap (λ (j : ℕ). take j (x ∷ xs)) z ∙ ap (λ (l : List (List ℕ)). x ∷ l) (take_add xs a n (a + n) refl)
-
-runs_append : (s : State) (xs ys : List (List ℕ)) → runs s (xs ++ ys) ≡ runs (runs s xs) ys
-runs_append s [] ys = refl
-runs_append s (x ∷ xs) ys = runs_append (after_read s (reading_of x)) xs ys
+nth_inside : (xs : List (List ℕ)) (a n m : ℕ) (l : List ℕ) → slice_get (take n (drop a xs)) m ≡ Some l → (m < n) × (slice_get xs (a + m) ≡ Some l)
+nth_inside xs a n m l e = let r = nth_take (drop a xs) n m l e in (r.0, sym (nth_drop xs a m) ∙ r.1)
 
 -- the line that was read, where one was
 line_of : (o : Option (List ℕ)) (x : Read) → read_of o ≡ Some x → (l : List ℕ) × ((o ≡ Some l) × (reading_of l ≡ x))
@@ -171,14 +154,29 @@ is_unschedulable (issued ps) e = let z : ◌≡◌ {A = ℕ} 0 1 = cc in absurd 
 is_unschedulable no_room e = let z : ◌≡◌ {A = ℕ} 11 12 = ap code_in e in absurd (omega arith)
 is_unschedulable unschedulable e = refl
 
+-- calls that lie between two
+around : (front since last all ys : List Event) (x y : Event) → since ≡ front ++ x ∷ [] → last ≡ since ++ ys → all ≡ last ++ y ∷ [] →
+    all ≡ front ++ x ∷ (ys ++ y ∷ [])
+around front since last all ys x y a b c =
+    c ∙ ap (λ (es : List Event). es ++ y ∷ []) (b ∙ ap (λ (es : List Event). es ++ ys) a)
+    ∙ append_assoc (front ++ x ∷ []) ys (y ∷ []) ∙ append_assoc front (x ∷ []) (ys ++ y ∷ [])
+
 -- ---- two mappings and what lies between them
 
 module _ (script : List ℕ) where
   -- the state some lines later
-  state_later : (a n k : ℕ) → k ≡ a + n → state_after script k ≡ runs (state_after script a) (take n (drop a (lines_of script)))
-  state_later a n k e =
-      ap (λ (l : List (List ℕ)). runs start l) (take_add (lines_of script) a n k e)
-      ∙ runs_append start (take a (lines_of script)) (take n (drop a (lines_of script)))
+  state_later : (a n : ℕ) → state_after script (a + n) ≡ runs (state_after script a) (take n (drop a (lines_of script)))
+  state_later a n =
+      ap (runs start) (take-add a n (lines_of script)) ∙ runs_append start (take a (lines_of script)) (take n (drop a (lines_of script)))
+
+  state_inside : (a n m : ℕ) → m ≤ n → state_after script (a + m) ≡ runs (state_after script a) (take m (take n (drop a (lines_of script))))
+  state_inside a n m h = state_later a m ∙ sym (ap (runs (state_after script a)) (take-take m n (drop a (lines_of script)) h))
+
+  course_later : (a n k : ℕ) → k ≡ a + n →
+      (state_after script k).course ≡ (state_after script a).course ++ added (state_after script a) (take n (drop a (lines_of script)))
+  course_later a n k e =
+      ap (λ (j : ℕ). (state_after script j).course) e ∙ ap (λ (z : State). z.course) (state_later a n)
+      ∙ grows (state_after script a) (take n (drop a (lines_of script)))
 
   take_one : (xs : List (List ℕ)) (l : List ℕ) → slice_get xs 0 ≡ Some l → take 1 xs ≡ l ∷ []
   take_one [] l e = let z : ◌≡◌ {A = ℕ} 0 1 = cc in absurd (omega arith)
@@ -186,9 +184,18 @@ module _ (script : List ℕ) where
 
   state_next : (k : ℕ) (l : List ℕ) → slice_get (lines_of script) k ≡ Some l → state_after script (suc k) ≡ after_read (state_after script k) (reading_of l)
   state_next k l e =
-      state_later k 1 (suc k) (omega arith)
-      ∙ ap (λ (ls : List (List ℕ)). runs (state_after script k) ls)
-      (take_one (drop k (lines_of script)) l (nth_drop (lines_of script) k 0 k (omega arith) ∙ e))
+      let here : slice_get (drop k (lines_of script)) 0 ≡ Some l = nth_drop (lines_of script) k 0 ∙ ap (slice_get (lines_of script)) (add-zero k) ∙ e in
+      let last : suc k ≡ k + 1 = omega arith in
+      ap (state_after script) last ∙ state_later k 1 ∙ ap (runs (state_after script k)) (take_one (drop k (lines_of script)) l here)
+
+  -- an accepted row line, from the state that it is read in
+  line_at : (k : ℕ) (l : List ℕ) (r : Row) (s : State) → slice_get (lines_of script) k ≡ Some l → reading_of l ≡ says (said.row r) →
+      state_after script k ≡ s → reply_read s (reading_of l) ≡ silent → LineAt script k (said.row r) silent
+  line_at k l r s stands reads same reply =
+      record {
+        reads = ap read_of stands ∙ ap Some reads;
+        replies = ap (reply_to (state_after script k)) stands ∙ ap (λ (z : State). Some (reply_read z (reading_of l))) same ∙ ap Some reply;
+      }
 
   -- a mapping line: its answer, and the calls after it
   module _ (k : ℕ) (c : Choice) (rule : Rule) (p : Reply) (at : LineAt script k (said.mapping c rule) p) where
@@ -222,38 +229,16 @@ module _ (script : List ℕ) where
       let e1 : s.course ≡ si.course ++ mapping (meaning_of (pile_of si a)) rule 128 (issued ls) ∷ [] =
       course_next i a rule (planned ls) f
       ∙ ap (λ (o : Mapped). si.course ++ mapping (meaning_of (pile_of si a)) rule 128 o ∷ []) first_is in
-      let e2 : sj.course ≡ s.course ++ ys = ap (λ (z : State). z.course) (state_later (suc i) n j to_j) ∙ grows s rest in
       let e3 : (state_after script (suc j)).course ≡ sj.course ++ mapping (meaning_of (pile_of sj b)) other 128 unschedulable ∷ [] =
       course_next j b other (by_mapping unschedulable) g
       ∙ ap (λ (o : Mapped). sj.course ++ mapping (meaning_of (pile_of sj b)) other 128 o ∷ []) last_is in
       let mi : Event = mapping (meaning_of (pile_of si a)) rule 128 (issued ls) in
       let mj : Event = mapping (meaning_of (pile_of sj b)) other 128 unschedulable in
-      let whole : (state_after script (suc j)).course ≡ si.course ++ mi ∷ (ys ++ mj ∷ []) =
-      e3 ∙ ap (λ (es : List Event). es ++ mj ∷ []) (e2 ∙ ap (λ (es : List Event). es ++ ys) e1)
-      ∙ append_assoc (si.course ++ mi ∷ []) ys (mj ∷ []) ∙ append_assoc si.course (mi ∷ []) (ys ++ mj ∷ []) in
+      let whole = around si.course s.course sj.course (state_after script (suc j)).course ys mi mj e1 (course_later (suc i) n j to_j) e3 in
       let q = (script_law script (suc j)).law.between si.course ys [] (meaning_of (pile_of si a)) (meaning_of (pile_of sj b)) rule other 128 128 ls whole
       (λ t m k _. alike_agree (pile_of si a) (pile_of sj b) alike t m k) in
       let w = entry_line s rest q.0 q.1.before q.1.since q.1.course in
-      let m = w.0 in
-      let l = w.1.0 in
-      let inside = nth_take (drop (suc i) (lines_of script)) n m l w.1.1.0 in
-      let stands : slice_get (lines_of script) (suc i + m) ≡ Some l = sym (nth_drop (lines_of script) (suc i) m (suc i + m) refl) ∙ inside.1 in
-      let same : runs s (take m rest) ≡ state_after script (suc i + m) =
-      ap (λ (x : List (List ℕ)). runs s x) (take-take m n (drop (suc i) (lines_of script)) (omega arith)) ∙ sym (state_later (suc i) m (suc i + m) refl) in (
-        suc i + m,
-        (
-          omega arith,
-          (
-            omega arith,
-            (
-              q.0,
-              record {
-                reads = ap read_of stands ∙ ap Some w.1.1.1.0;
-                replies =
-                    ap (reply_to (state_after script (suc i + m))) stands
-                    ∙ ap (λ (z : State). Some (reply_read z (reading_of l))) (sym same) ∙ ap Some w.1.1.1.1;
-              },
-            ),
-          ),
-        ),
-      )
+      let inside = nth_inside (lines_of script) (suc i) n w.place w.line w.stands in
+      let k = suc i + w.place in
+      let same = state_inside (suc i) n w.place (omega arith) in
+      (k, (omega arith, (omega arith, (q.0, line_at k w.line q.0 (runs s (take w.place rest)) inside.1 w.reads same w.accepted_there))))

@@ -1,11 +1,11 @@
 -- The calls that a script's lines make are a course. Assumes nothing.
-use Rattle.std.proofs.Common.{◌≡◌, ℕ, ◌≤◌, true, false, List, [], ◌∷◌, take, refl, inl, inr, arith}
+use Rattle.std.proofs.Common.{◌≡◌, ℕ, ◌≤◌, true, false, List, [], ◌∷◌, take, None, refl, inl, inr, arith}
 use Rattle.std.proofs.lemmas.Bool.{cases_Bool}
 use Rattle.std.proofs.lemmas.Bool.Decides.{nat_tests}
 use Rattle.analysis.specs.Ranges.{kept_cost, wrong_field}
 use Rattle.analysis.specs.declared.row.Row.{Row}
 use Rattle.analysis.proofs.Checks.{range_right, right_range}
-use Rattle.layers.proofs.Piled.{piles_lawful}
+use Rattle.layers.specs.Lemmas.Lawful.{piles_lawful}
 use Rattle.mapping.specs.Courses.{Accepts, Answers, Course, Limits, entry, new, strike, table, then}
 use Rattle.mapping.specs.Faults.{Outcome, accepted, enter_outcome, refused, strike_outcome}
 use Rattle.mapping.specs.Orders.{Stands}
@@ -34,7 +34,7 @@ taken t r a =
 
 entry_answers : (t : List Row) (r : Row) (o : Outcome) → o ≡ enter_outcome r t → Answers t (entry r (accepts o))
 entry_answers t r accepted e =
-    let w : wrong_field kept_cost r ≡ 0 = grind (arith, nat_tests) in
+    let w : wrong_field kept_cost r ≡ None = grind (arith, nat_tests) in
     let h : has_number r.number t ≡ false = grind (arith, nat_tests) in
     record {
       ranges = right_range kept_cost r w;

@@ -1,6 +1,5 @@
 -- Answers fit 4,096 bytes. Assumes nothing.
-use Rattle.std.proofs.Common.{ℕ, ◌+◌, ◌-◌, ◌*◌, ◌^◌, ◌<◌, ◌≤◌, List, [], ◌∷◌, ◌++◌, length, take, Some, Ok, codes, decimal, arith, length-append}
-use native.Mathlib.Nat.{sub-zero}
+use Rattle.std.proofs.Common.{ℕ, ◌+◌, ◌*◌, ◌^◌, ◌<◌, ◌≤◌, List, [], ◌∷◌, ◌++◌, length, take, Some, Ok, codes, decimal, arith, length-append}
 use Rattle.mapping.specs.Replies.{Modest}
 use Rattle.mapping.specs.declared.plan.PlanLine.{PlanLine}
 use Rattle.std.proofs.lemmas.Fmt.{length-decimal-le}
@@ -33,7 +32,6 @@ plan_fits l t r ls hl ht hr b =
 
 -- an outcome's plan, as the writer gets it
 pub outcome_fits : (line : ℕ) (i : Issued) (ls : List PlanLine) → line ≤ 65536 → Fitting (Ok (Some i)) ls →
-    length (plan_text line i.tasks i.lines (take (i.lines - 0) ls)) ≤ 4096
+    length (plan_text line i.tasks i.lines (take i.lines ls)) ≤ 4096
 outcome_fits line i ls h f =
-    let n = length-take-le i.lines ls f.1.0 in
-    rw (sub-zero i.lines) (plan_fits line i.tasks i.lines (take i.lines ls) h f.0 (omega (arith, f.1.1.few)) f.1.1)
+    plan_fits line i.tasks i.lines (take i.lines ls) h f.0 (omega (arith, f.1.1.few, length-take-le i.lines ls f.1.0)) f.1.1

@@ -1,10 +1,6 @@
-pub mod Puts
 pub mod Fits
 pub mod Obeying
-pub mod Sameness
 pub mod Coursing
 pub mod Taking
-pub mod Keeping
 pub mod Writing
 pub mod Betweens
-pub mod Telling

@@ -1,5 +1,5 @@
 -- What the calls on the sheet and on the mapping do is what a line's state and reply are defined to be. Assumes nothing.
-use Rattle.std.proofs.Common.{◌≡◌, ℕ, Bool, true, false, cond, List, [], ◌∷◌, ◌++◌, length, take, drop, is_ok, IfOk, Some, None, Ok, Err, Option, Result, sym, refl, ap, ◌∙◌, subst, arith}
+use Rattle.std.proofs.Common.{◌≡◌, ℕ, Bool, List, [], ◌∷◌, ◌++◌, length, take, drop, is_ok, IfOk, Some, None, Ok, Err, Option, Result, sym, refl, ap, ◌∙◌, subst, arith}
 use Rattle.std.proofs.lemmas.List.{take_at}
 use Rattle.analysis.specs.Questions.{Meaning}
 use Rattle.analysis.specs.Choices.{chosen}
@@ -9,7 +9,7 @@ use Rattle.layers.specs.Layers.{charged, with_margin, with_pairs}
 use Rattle.layers.specs.Lists.{pairs_of}
 use Rattle.layers.specs.Piles.{meaning_of}
 use Rattle.layers.specs.declared.pair.Pair.{Pair}
-use Rattle.mapping.specs.Courses.{Event, Mapped, after, entered, entry, issued, map_answer, mapping, no_room, strike, struck, table, unschedulable}
+use Rattle.mapping.specs.Courses.{Event, Mapped, after, issued, map_answer, mapping, no_room, table, unschedulable}
 use Rattle.mapping.specs.Faults.{Outcome, outcome_of}
 use Rattle.mapping.specs.Replies.{Bounded, last_task, reply, reply_of, written}
 use Rattle.mapping.specs.Rows.{rows_of}
@@ -67,14 +67,6 @@ module _ {X : Type 0} (w w' : Workspace) (x : Said) (outcome : List Row → Outc
         reply = λ s m.
             subst (λ z. Replies z (passed_sheet r) ls) (sym (replies s)) (says_sheet r (outcome (standing s)) ls (o ∙ ap outcome m.rows));
       }
-
-pub after_entry : (b : Bool) (r : Row) (t : List Row) → cond b (entered r t) t ≡ after t (entry r b)
-after_entry true r t = refl
-after_entry false r t = refl
-
-pub after_strike : (b : Bool) (n : ℕ) (t : List Row) → cond b (struck n t) t ≡ after t (strike n b)
-after_strike true n t = refl
-after_strike false n t = refl
 
 -- ---- a mapping
 

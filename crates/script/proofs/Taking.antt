@@ -1,6 +1,7 @@
 -- One line more of a script. Assumes nothing.
-use Rattle.std.proofs.Common.{◌≡◌, ℕ, zero, suc, ◌+◌, ◌≤◌, List, [], ◌∷◌, ◌++◌, length, take, drop, Some, None, Option, Result, sym, refl, ap, ◌∙◌, subst, add-one, arith}
+use Rattle.std.proofs.Common.{◌≡◌, ℕ, zero, suc, ◌+◌, ◌≤◌, List, [], ◌∷◌, ◌++◌, length, take, drop, Some, None, Option, Result, sym, refl, ap, ◌∙◌, subst, add-one, add-zero, take-add, arith}
 use Rattle.std.proofs.lemmas.Bool.{le-ltb}
+use Rattle.std.proofs.lemmas.List.{drop-drop}
 use Rattle.std.specs.List.{AllByRecursion, slice_get}
 use Rattle.mapping.specs.Replies.{Bounded, Modest, last_task}
 use Rattle.mapping.specs.declared.plan.Issued.{Issued}
@@ -9,7 +10,7 @@ use Rattle.reading.specs.Lines.{lines_of}
 use Rattle.reading.specs.Says.{reading_of}
 use Rattle.script.specs.Answers.{plan_text, refusal_text}
 use Rattle.script.specs.Refusals.{Refusal}
-use Rattle.script.specs.Sessions.{Reply, State, after_read, answer_text, planned, refused, reply_at, reply_read, runs, silent, start, state_after}
+use Rattle.script.specs.Sessions.{Reply, State, after_read, answer_text, planned, refused, reply_at, reply_read, reply_to, runs, silent, start, state_after}
 use Rattle.script.specs.Turns as turns
 use Rattle.script.specs.Turns.{answered, no_more, room_after, taken_after, told_by, told_of, turn}
 use Rattle.script.specs.Works.{Fitting, Replies, outcome_text}
@@ -17,39 +18,30 @@ use Rattle.script.specs.declared.fault.Fault.{Fault}
 
 -- ---- lists
 
-nth_nil : (xs : List (List ℕ)) (k : ℕ) → drop k xs ≡ [] → slice_get xs k ≡ None
-nth_nil [] k e = refl
-nth_nil (x ∷ xs) zero e = let z : ◌≡◌ {A = ℕ} 0 1 = cc in absurd (omega arith)
-nth_nil (x ∷ xs) (suc k) e = nth_nil xs k e
+pub nth_drop : (xs : List (List ℕ)) (a m : ℕ) → slice_get (drop a xs) m ≡ slice_get xs (a + m)
+nth_drop xs zero m = let z : m ≡ 0 + m = omega arith in ap (slice_get xs) z
+nth_drop [] (suc a) m = refl
+nth_drop (x ∷ xs) (suc a) m = let z : suc (a + m) ≡ suc a + m = omega arith in nth_drop xs a m ∙ ap (slice_get (x ∷ xs)) z
 
-module _ {y : List ℕ} {ys : List (List ℕ)} where
-  nth_cons : (xs : List (List ℕ)) (k : ℕ) → drop k xs ≡ y ∷ ys → slice_get xs k ≡ Some y
-  nth_cons [] zero e = let z : ◌≡◌ {A = ℕ} 0 1 = cc in absurd (omega arith)
-  nth_cons [] (suc k) e = let z : ◌≡◌ {A = ℕ} 0 1 = cc in absurd (omega arith)
-  nth_cons (x ∷ xs) zero e = (cc)
-  nth_cons (x ∷ xs) (suc k) e = nth_cons xs k e
+module _ (xs : List (List ℕ)) (k : ℕ) where
+  nth_rest : (rest : List (List ℕ)) → drop k xs ≡ rest → slice_get xs k ≡ slice_get rest 0
+  nth_rest rest e = ap (slice_get xs) (sym (add-zero k)) ∙ sym (nth_drop xs k 0) ∙ ap (λ (l : List (List ℕ)). slice_get l 0) e
 
-  take_cons : (xs : List (List ℕ)) (k : ℕ) → drop k xs ≡ y ∷ ys → take (suc k) xs ≡ take k xs ++ y ∷ []
-  take_cons [] zero e = let z : ◌≡◌ {A = ℕ} 0 1 = cc in absurd (omega arith)
-  take_cons [] (suc k) e = let z : ◌≡◌ {A = ℕ} 0 1 = cc in absurd (omega arith)
-  take_cons (x ∷ xs) zero e = (cc)
-  take_cons (x ∷ xs) (suc k) e = ap (λ (l : List (List ℕ)). x ∷ l) (take_cons xs k e)
+  take_next : (y : List ℕ) (ys : List (List ℕ)) → drop k xs ≡ y ∷ ys → take (k + 1) xs ≡ take k xs ++ y ∷ []
+  take_next y ys e = take-add k 1 xs ∙ ap (λ (l : List (List ℕ)). take k xs ++ take 1 l) e
 
-  drop_next : (xs : List (List ℕ)) (k : ℕ) → drop k xs ≡ y ∷ ys → drop (suc k) xs ≡ ys
-  drop_next [] zero e = let z : ◌≡◌ {A = ℕ} 0 1 = cc in absurd (omega arith)
-  drop_next [] (suc k) e = let z : ◌≡◌ {A = ℕ} 0 1 = cc in absurd (omega arith)
-  drop_next (x ∷ xs) zero e = (cc)
-  drop_next (x ∷ xs) (suc k) e = drop_next xs k e
+  drop_next : (y : List ℕ) (ys : List (List ℕ)) → drop k xs ≡ y ∷ ys → drop (k + 1) xs ≡ ys
+  drop_next y ys e = sym (drop-drop 1 k xs) ∙ ap (drop 1) e
 
-runs_push : (s : State) (ls : List (List ℕ)) (l : List ℕ) → runs s (ls ++ l ∷ []) ≡ after_read (runs s ls) (reading_of l)
-runs_push s [] l = refl
-runs_push s (x ∷ xs) l = runs_push (after_read s (reading_of x)) xs l
+pub runs_append : (s : State) (xs ys : List (List ℕ)) → runs s (xs ++ ys) ≡ runs (runs s xs) ys
+runs_append s [] ys = refl
+runs_append s (x ∷ xs) ys = runs_append (after_read s (reading_of x)) xs ys
 
 -- ---- no line is left
 
 module _ (script : List ℕ) (k : ℕ) (e : drop k (lines_of script) ≡ []) where
   none : reply_at script k ≡ None
-  none = rw (nth_nil (lines_of script) k e)
+  none = ap (reply_to (state_after script k)) (nth_rest (lines_of script) k [] e)
 
   pub end_turn : (n : ℕ) → 4096 ≤ n → no_more ≡ turn script k n
   end_turn n h = rw (le-ltb n 4096 h, none)
@@ -67,13 +59,13 @@ module _ (script : List ℕ) (k : ℕ) (y : List ℕ) (ys : List (List ℕ)) (e 
   reply = reply_read (state_after script k) (reading_of y)
 
   some : reply_at script k ≡ Some reply
-  some = rw (nth_cons (lines_of script) k e)
+  some = ap (reply_to (state_after script k)) (nth_rest (lines_of script) k (y ∷ ys) e)
 
   pub next_state : state_after script (k + 1) ≡ after_read (state_after script k) (reading_of y)
-  next_state = rw (add-one, take_cons (lines_of script) k e) (runs_push start (take k (lines_of script)) y)
+  next_state = ap (runs start) (take_next (lines_of script) k y ys e) ∙ runs_append start (take k (lines_of script)) (y ∷ [])
 
   pub next_rest : drop (k + 1) (lines_of script) ≡ ys
-  next_rest = rw add-one (drop_next (lines_of script) k e)
+  next_rest = drop_next (lines_of script) k y ys e
 
   pub next_turn : (n : ℕ) → 4096 ≤ n → answered (k + 1) (length (answer_text (k + 1) reply)) (told_by reply) ≡ turn script k n
   next_turn n h = rw (le-ltb n 4096 h, some, add-one)

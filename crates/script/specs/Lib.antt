@@ -4,5 +4,4 @@ pub mod Refusals
 pub mod Sessions
 pub mod Turns
 pub mod Works
-pub mod Same
 pub mod Begun

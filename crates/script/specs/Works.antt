@@ -1,15 +1,14 @@
 -- The sheet and the pile of a session, held to the state that they stand for. Assumes nothing.
-use Rattle.std.specs.Prelude.{◌≡◌, ℕ, ◌+◌, ◌<◌, ◌≤◌, Bool, true, false, List, [], ◌++◌, length, take, Some, None, Ok, Err, Option, Result}
+use Rattle.std.specs.Prelude.{◌≡◌, ℕ, ◌≤◌, List, [], length, take, Some, None, Ok, Err, Option, Result}
 use Rattle.layers.specs.Lists.{pairs_of}
 use Rattle.mapping.specs.Replies.{Bounded, last_task}
 use Rattle.mapping.specs.Rows.{rows_of}
 use Rattle.mapping.specs.declared.plan.Issued.{Issued}
 use Rattle.mapping.specs.declared.plan.PlanLine.{PlanLine}
-use Rattle.reading.specs.Lines.{lines_of}
 use Rattle.reading.specs.Says.{Read, Said}
 use Rattle.script.specs.Refusals.{refusal_of}
 use Rattle.script.specs.Answers.{plan_text, refusal_text}
-use Rattle.script.specs.Sessions.{Reply, State, after_read, after_said, answers_after, planned, refused, reply_read, reply_said, silent, standing}
+use Rattle.script.specs.Sessions.{Reply, State, after_read, after_said, planned, refused, reply_read, reply_said, silent, standing}
 use Rattle.script.specs.declared.fault.Fault.{Fault}
 use Rattle.script.specs.declared.workspace.Workspace.{Workspace}
 
@@ -48,8 +47,3 @@ abbrev pub Fitting : Result (Option Issued) Fault → List PlanLine → Type 0
 Fitting (Ok None) ls = Unit {0}
 Fitting (Ok (Some i)) ls = (i.tasks ≤ 128) × ((i.lines ≤ length ls) × Bounded (take i.lines ls))
 Fitting (Err e) ls = Unit {0}
-
--- one more answer was appended, or none was left
-abbrev pub Appends : Bool → (script : List ℕ) (k k' : ℕ) (out out' : List ℕ) → Type 0
-Appends true script k k' out out' = (k < length (lines_of script)) × ((k' ≡ k + 1) × (out' ++ answers_after script (k + 1) ≡ out ++ answers_after script k))
-Appends false script k k' out out' = (out' ≡ out) × (answers_after script k ≡ [])

@@ -1,6 +1,6 @@
 //! Why a line or a whole script is refused, and why a session does not begin.
-ghost use Rattle.std.specs.Prelude.{◌≡◌};
-ghost use Rattle.script.specs.Refusals.{refusal_of};
+ghost use Rattle.std.specs.Prelude.{◌≡◌, Some, codes};
+ghost use Rattle.script.specs.Refusals.{begin_text, fault_text, refusal_of};
 ghost use Rattle.script.specs.declared.fault.BeginFault.TheVariants as begin;
 ghost use Rattle.script.specs.declared.fault.Fault.TheVariants as fault;
 
@@ -8,6 +8,8 @@ use layers::LayerFault;
 use mapping::{MapFault, SheetFault};
 use reading::{ReadFault, TextFault};
 use std::alloc::AllocError;
+use std::error::Error;
+use std::fmt;
 
 /// Why a session takes no line.
 #[derive(Clone, Copy, PartialEq, Eq, Debug)]
@@ -28,24 +30,17 @@ pub enum Fault {
 }
 
 impl Fault {
+    // Numbers, since a refusal is told by a code and a field, and 0 is "no field".
     /// The code of the refusal.
     pub fn code(self) -> u32
         ensures { result ≡ (refusal_of self).code }
     {
         match self {
-            Fault::Reader(ReadFault::TooLong) => 13,
-            Fault::Text(TextFault::Form) => 1,
-            Fault::Text(TextFault::Number { .. }) => 2,
-            Fault::Sheet(SheetFault::Range { .. }) => 3,
-            Fault::Sheet(SheetFault::Standing) => 4,
-            Fault::Sheet(SheetFault::Full) => 5,
-            Fault::Sheet(SheetFault::Missing) => 6,
-            Fault::Layer(LayerFault::Range { .. }) => 3,
-            Fault::Layer(LayerFault::Equal) => 8,
-            Fault::Layer(LayerFault::Held) => 9,
-            Fault::Layer(LayerFault::Full) => 10,
-            Fault::Mapping(MapFault::Room) => 11,
-            Fault::Mapping(MapFault::Unschedulable) => 12,
+            Fault::Reader(e) => e.code(),
+            Fault::Text(e) => e.code(),
+            Fault::Sheet(e) => e.code(),
+            Fault::Layer(e) => e.code(),
+            Fault::Mapping(e) => e.code(),
             Fault::Session(SessionFault::Room) => 14,
         }
     }
@@ -55,16 +50,40 @@ impl Fault {
         ensures { result ≡ (refusal_of self).field }
     {
         match self {
-            Fault::Text(TextFault::Number { field }) => field,
-            Fault::Sheet(SheetFault::Range { field }) => field,
-            Fault::Sheet(SheetFault::Standing) => 1,
-            Fault::Sheet(SheetFault::Missing) => 1,
-            Fault::Layer(LayerFault::Range { field }) => field,
-            _ => 0,
+            Fault::Text(e) => e.field(),
+            Fault::Sheet(e) => e.field(),
+            Fault::Layer(e) => e.field(),
+            Fault::Reader(_) | Fault::Mapping(_) | Fault::Session(_) => 0,
         }
     }
 }
 
+impl fmt::Display for Fault {
+    ghost output = { λ e. Some (fault_text e) };
+
+    fn fmt<W: fmt::Write>(&self, f: &mut fmt::Formatter<W>) -> fmt::Result {
+        let code = self.code();
+        let field = self.field();
+        write!(f, "refused with code {code}, field {field}")
+    }
+}
+
+impl Error for Fault {}
+
+impl fmt::Display for SessionFault {
+    ghost output = { λ _. Some (codes "the room for an answer has fewer than 4,096 bytes") };
+
+    fn fmt<W: fmt::Write>(&self, f: &mut fmt::Formatter<W>) -> fmt::Result {
+        match self {
+            SessionFault::Room => write!(f, "the room for an answer has fewer than 4,096 bytes"),
+        }
+    }
+}
+
+impl Error for SessionFault {}
+
+// Each `From` is written by hand, since contracts name the error that `?` makes, and so is each `Display` above,
+// since its contract names the text: what a derive writes says nothing of either.
 impl From<ReadFault> for Fault {
     ghost from_gives = { λ e r. r ≡ fault.Reader e };
 
@@ -121,6 +140,19 @@ pub enum BeginFault {
     /// There is no memory for the sheet or the pairs.
     Memory,
 }
+
+impl fmt::Display for BeginFault {
+    ghost output = { λ e. Some (begin_text e) };
+
+    fn fmt<W: fmt::Write>(&self, f: &mut fmt::Formatter<W>) -> fmt::Result {
+        match self {
+            BeginFault::Refused(fault) => write!(f, "{fault}"),
+            BeginFault::Memory => write!(f, "there is no memory for a session"),
+        }
+    }
+}
+
+impl Error for BeginFault {}
 
 impl From<ReadFault> for BeginFault {
     ghost from_gives = { λ e r. r ≡ begin.Refused (fault.Reader e) };

@@ -3,10 +3,11 @@ ghost use Rattle.reading.specs.Says.{outcome, said};
 ghost use Rattle.reading.specs.Says as says;
 ghost use Rattle.script.specs.Works.{Matches, Obeys, Takes};
 ghost use Rattle.script.specs.Sessions.{start};
-ghost use Rattle.std.specs.Prelude.{◌≡◌, length, IfOk};
+ghost use Rattle.std.specs.Prelude.{List, IfOk};
+ghost use Rattle.mapping.specs.declared.plan.PlanLine.{PlanLine};
 
 use crate::fault::Fault;
-use analysis::{Choice, Row};
+use analysis::{Choice, MOST_ROWS, Row};
 use layers::{Charge, Margin, PairList, Pairs, Percent, Ticks};
 use mapping::{Issued, PlanLine, Rule, Sheet};
 use reading::{Line, TextFault};
@@ -41,40 +42,40 @@ impl Workspace {
     }
 
     /// Enters a row.
-    fn enter(&mut self, row: Row, lines: &[PlanLine]) -> Result<Option<Issued>, Fault>
-        ensures { Obeys self.old (says.row row) self.new result lines.now }
+    fn enter(&mut self, row: Row) -> Result<Option<Issued>, Fault>
+        ensures { (ls : List PlanLine) → Obeys self.old (says.row row) self.new result ls }
     {
         self.sheet.enter(row)?;
         Ok(None)
     }
 
     /// Strikes the row of a number.
-    fn strike(&mut self, number: u32, lines: &[PlanLine]) -> Result<Option<Issued>, Fault>
-        ensures { Obeys self.old (says.strike number) self.new result lines.now }
+    fn strike(&mut self, number: u32) -> Result<Option<Issued>, Fault>
+        ensures { (ls : List PlanLine) → Obeys self.old (says.strike number) self.new result ls }
     {
         self.sheet.strike(number)?;
         Ok(None)
     }
 
     /// Holds one more pair.
-    fn pair(&mut self, upper: u32, lower: u32, lines: &[PlanLine]) -> Result<Option<Issued>, Fault>
-        ensures { Obeys self.old (says.pair upper lower) self.new result lines.now }
+    fn pair(&mut self, upper: u32, lower: u32) -> Result<Option<Issued>, Fault>
+        ensures { (ls : List PlanLine) → Obeys self.old (says.pair upper lower) self.new result ls }
     {
         self.pile.pairs.add(upper, lower)?;
         Ok(None)
     }
 
     /// Sets the charge.
-    fn charge(&mut self, ticks: u32, lines: &[PlanLine]) -> Result<Option<Issued>, Fault>
-        ensures { Obeys self.old (says.charge ticks) self.new result lines.now }
+    fn charge(&mut self, ticks: u32) -> Result<Option<Issued>, Fault>
+        ensures { (ls : List PlanLine) → Obeys self.old (says.charge ticks) self.new result ls }
     {
         self.pile.below.below.ticks = Ticks::new(ticks)?;
         Ok(None)
     }
 
     /// Sets the margin.
-    fn margin(&mut self, percent: u32, lines: &[PlanLine]) -> Result<Option<Issued>, Fault>
-        ensures { Obeys self.old (says.margin percent) self.new result lines.now }
+    fn margin(&mut self, percent: u32) -> Result<Option<Issued>, Fault>
+        ensures { (ls : List PlanLine) → Obeys self.old (says.margin percent) self.new result ls }
     {
         self.pile.below.percent = Percent::new(percent)?;
         Ok(None)
@@ -85,9 +86,8 @@ impl Workspace {
         &mut self,
         choice: Choice,
         rule: Rule,
-        lines: &mut [PlanLine],
+        lines: &mut [PlanLine; MOST_ROWS],
     ) -> Result<Option<Issued>, Fault>
-        requires { length lines.old ≡ 128 }
         ensures { Obeys self.old (says.mapping choice rule) self.new result lines.new }
     {
         self.pile.below.below.below = choice;
@@ -96,10 +96,14 @@ impl Workspace {
     }
 
     /// Does what a line says; a plan's lines go to the front of `lines`.
-    fn obey(&mut self, line: Line, lines: &mut [PlanLine]) -> Result<Option<Issued>, Fault>
-        requires { length lines.old ≡ 128 }
+    fn obey(
+        &mut self,
+        line: Line,
+        lines: &mut [PlanLine; MOST_ROWS],
+    ) -> Result<Option<Issued>, Fault>
         ensures { Obeys self.old (said line.entry) self.new result lines.new }
     {
+        // A match, since a line is one of six kinds, which the definitions tell in the same way.
         match line {
             Line::Row {
                 number,
@@ -115,12 +119,12 @@ impl Workspace {
                     deadline: deadline.value(),
                     section: section.value(),
                 };
-                self.enter(row, lines)
+                self.enter(row)
             }
-            Line::Strike { number } => self.strike(number.value(), lines),
-            Line::Pair { u, l } => self.pair(u.value(), l.value(), lines),
-            Line::Charge { s } => self.charge(s.value(), lines),
-            Line::Margin { p } => self.margin(p.value(), lines),
+            Line::Strike { number } => self.strike(number.value()),
+            Line::Pair { u, l } => self.pair(u.value(), l.value()),
+            Line::Charge { s } => self.charge(s.value()),
+            Line::Margin { p } => self.margin(p.value()),
             Line::Map { choice, rule, .. } => self.map(choice, rule, lines),
         }
     }
@@ -129,12 +133,10 @@ impl Workspace {
     pub(crate) fn take(
         &mut self,
         read: Result<Line, TextFault>,
-        lines: &mut [PlanLine],
+        lines: &mut [PlanLine; MOST_ROWS],
     ) -> Result<Option<Issued>, Fault>
-        requires { length lines.old ≡ 128 }
         ensures { Takes self.old (outcome read.entry) self.new result lines.new }
     {
-        let line = read?;
-        self.obey(line, lines)
+        self.obey(read?, lines)
     }
 }

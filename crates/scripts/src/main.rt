@@ -19,13 +19,8 @@ fn write_answers(rt: &HostRuntime, script: &[u8]) -> io::Result<()> {
 fn main(rt: HostRuntime) -> io::Result<()> {
     let mut input = Vec::new(rt.alloc());
     rt.stdin().read_to_end(&mut input)?;
-    let bytes = input.as_slice();
-    let mut start = 0;
-    for (i, b) in bytes.iter().enumerate() {
-        if *b == SEPARATOR {
-            write_answers(&rt, &bytes[start..i])?;
-            start = i + 1;
-        }
+    for script in input.as_slice().split(|b| *b == SEPARATOR) {
+        write_answers(&rt, script)?;
     }
-    write_answers(&rt, &bytes[start..])
+    Ok(())
 }

@@ -1,10 +1,18 @@
 //! The records of the input.
-use crate::pile::Layer;
 use analysis::{Choice, Mark, Row};
 use anyhow::anyhow;
-use layers::{Percent, Ticks};
+use layers::{PairList, Percent, Ticks};
 use mapping::{PlanLine, Rule};
+use reading::{choice_of, rule_of};
 use std::alloc::Global;
+
+/// A layer.
+#[derive(Drop)]
+pub(crate) enum Layer {
+    Charge(Ticks),
+    Margin(Percent),
+    Pairs(PairList),
+}
 
 /// What a line says.
 #[derive(Drop)]
@@ -22,26 +30,16 @@ pub(crate) enum Record {
     Cycle(u32),
 }
 
-fn choice_of(word: &str) -> anyhow::Result<Choice> {
-    if word == "exact" {
-        Ok(Choice::Exact)
-    } else if word == "linear" {
-        Ok(Choice::Linear)
-    } else if word == "sections" {
-        Ok(Choice::Sections)
-    } else {
-        Err(anyhow!("unknown analysis"))
-    }
+/// A table under the analysis of this name.
+fn table_of(name: &str) -> anyhow::Result<Record> {
+    let choice = choice_of(name.as_bytes()).ok_or_else(|| anyhow!("unknown analysis"))?;
+    Ok(Record::Table(choice))
 }
 
-fn rule_of(word: &str) -> anyhow::Result<Rule> {
-    if word == "equal" {
-        Ok(Rule::Equal)
-    } else if word == "divided" {
-        Ok(Rule::Divided)
-    } else {
-        Err(anyhow!("unknown rule"))
-    }
+/// A mapping by the rule of this name.
+fn map_of(name: &str) -> anyhow::Result<Record> {
+    let rule = rule_of(name.as_bytes()).ok_or_else(|| anyhow!("unknown rule"))?;
+    Ok(Record::Map(rule))
 }
 
 /// The marks that letters stand for.
@@ -81,57 +79,52 @@ fn numbers_of(heap: Global, fields: &str) -> anyhow::Result<Vec<u32>> {
     Ok(numbers)
 }
 
-/// A layer of one setting.
-fn setting_of(word: &str, n: u32) -> anyhow::Result<Record> {
-    if word == "charge" {
-        match Ticks::new(n) {
-            Ok(ticks) => Ok(Record::Layer(Layer::Charge(ticks))),
-            Err(_) => Err(anyhow!("charge out of range")),
-        }
-    } else if word == "margin" {
-        match Percent::new(n) {
-            Ok(percent) => Ok(Record::Layer(Layer::Margin(percent))),
-            Err(_) => Err(anyhow!("margin out of range")),
-        }
-    } else {
-        Err(anyhow!("unknown record"))
+/// The pairs that numbers in a row stand for.
+fn pairs_of(heap: Global, numbers: &[u32]) -> anyhow::Result<PairList> {
+    let mut pairs = PairList::new(heap)?;
+    for two in numbers.chunks_exact(2) {
+        pairs
+            .add(two[0], two[1])
+            .map_err(|_| anyhow!("a pair is refused"))?;
     }
+    Ok(pairs)
 }
 
-/// A record of one number.
-fn single(word: &str, n: u32) -> anyhow::Result<Record> {
-    if word == "strike" {
-        Ok(Record::Strike(n))
-    } else if word == "run" {
-        Ok(Record::Run(n))
-    } else if word == "totals" {
-        Ok(Record::Totals(n))
-    } else if word == "cycle" {
-        Ok(Record::Cycle(n))
-    } else {
-        setting_of(word, n)
-    }
+/// A layer that raises every cost.
+fn charge_of(ticks: u32) -> anyhow::Result<Record> {
+    let ticks = Ticks::new(ticks).map_err(|_| anyhow!("charge out of range"))?;
+    Ok(Record::Layer(Layer::Charge(ticks)))
 }
 
-/// A record of several numbers.
-fn several(word: &str, numbers: &[u32]) -> anyhow::Result<Record> {
-    match numbers {
-        [task, activation] if word == "load" => Ok(Record::Load {
-            task: *task,
-            activation: *activation,
-        }),
-        [task, place, number, response] if word == "line" => Ok(Record::Line(PlanLine {
-            task: *task,
-            place: *place,
-            number: *number,
-            response: *response,
+/// A layer that keeps a part of the deadline free.
+fn margin_of(percent: u32) -> anyhow::Result<Record> {
+    let percent = Percent::new(percent).map_err(|_| anyhow!("margin out of range"))?;
+    Ok(Record::Layer(Layer::Margin(percent)))
+}
+
+/// A record of numbers.
+fn numbered(heap: Global, word: &str, numbers: &[u32]) -> anyhow::Result<Record> {
+    match (word, numbers) {
+        ("strike", &[number]) => Ok(Record::Strike(number)),
+        ("charge", &[ticks]) => charge_of(ticks),
+        ("margin", &[percent]) => margin_of(percent),
+        ("pairs", numbers) => Ok(Record::Layer(Layer::Pairs(pairs_of(heap, numbers)?))),
+        ("run", &[task]) => Ok(Record::Run(task)),
+        ("totals", &[task]) => Ok(Record::Totals(task)),
+        ("cycle", &[task]) => Ok(Record::Cycle(task)),
+        ("load", &[task, activation]) => Ok(Record::Load { task, activation }),
+        ("line", &[task, place, number, response]) => Ok(Record::Line(PlanLine {
+            task,
+            place,
+            number,
+            response,
         })),
-        [number, cost, period, deadline, section] if word == "row" => Ok(Record::Row(Row {
-            number: *number,
-            cost: *cost,
-            period: *period,
-            deadline: *deadline,
-            section: *section,
+        ("row", &[number, cost, period, deadline, section]) => Ok(Record::Row(Row {
+            number,
+            cost,
+            period,
+            deadline,
+            section,
         })),
         _ => Err(anyhow!("unknown record")),
     }
@@ -140,22 +133,11 @@ fn several(word: &str, numbers: &[u32]) -> anyhow::Result<Record> {
 impl Record {
     /// What a line of this word and these fields says.
     pub(crate) fn of(heap: Global, word: &str, fields: &str) -> anyhow::Result<Record> {
-        if word == "table" {
-            return Ok(Record::Table(choice_of(fields)?));
-        }
-        if word == "map" {
-            return Ok(Record::Map(rule_of(fields)?));
-        }
-        if word == "ask" {
-            return question_of(heap, fields);
-        }
-        let numbers = numbers_of(heap, fields)?;
-        if word == "pairs" {
-            return Ok(Record::Layer(Layer::Pairs(numbers)));
-        }
-        match numbers.as_slice() {
-            [n] => single(word, *n),
-            all => several(word, all),
+        match word {
+            "table" => table_of(fields),
+            "map" => map_of(fields),
+            "ask" => question_of(heap, fields),
+            _ => numbered(heap, word, numbers_of(heap, fields)?.as_slice()),
         }
     }
 }

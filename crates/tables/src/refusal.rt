@@ -11,35 +11,31 @@ pub(crate) struct Refusal {
     code: u32,
 }
 
+// Four alike, since each fault is a type of its own and an `impl` that a macro writes is refused.
 impl From<SheetFault> for Refusal {
     fn from(fault: SheetFault) -> Refusal {
-        let (field, code) = match fault {
-            SheetFault::Range { field } => (field, 3),
-            SheetFault::Standing => (1, 4),
-            SheetFault::Full => (0, 5),
-            SheetFault::Missing => (1, 6),
-        };
-        Refusal { field, code }
+        Refusal {
+            field: fault.field(),
+            code: fault.code(),
+        }
     }
 }
 
 impl From<QuestionFault> for Refusal {
     fn from(fault: QuestionFault) -> Refusal {
-        let (field, code) = match fault {
-            QuestionFault::Shape => (0, 7),
-            QuestionFault::Range { field } => (field, 3),
-        };
-        Refusal { field, code }
+        Refusal {
+            field: fault.field(),
+            code: fault.code(),
+        }
     }
 }
 
 impl From<MapFault> for Refusal {
     fn from(fault: MapFault) -> Refusal {
-        let code = match fault {
-            MapFault::Room => 11,
-            MapFault::Unschedulable => 12,
-        };
-        Refusal { field: 0, code }
+        Refusal {
+            field: 0,
+            code: fault.code(),
+        }
     }
 }
 
@@ -54,8 +50,6 @@ impl From<TaskFault> for Refusal {
 
 impl fmt::Display for Refusal {
     fn fmt<W: fmt::Write>(&self, f: &mut fmt::Formatter<W>) -> fmt::Result {
-        let field = self.field;
-        let code = self.code;
-        write!(f, "refused,{field},{code}")
+        write!(f, "refused,{},{}", self.field, self.code)
     }
 }

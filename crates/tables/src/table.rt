@@ -1,116 +1,136 @@
 //! A table, and what its lines do.
-use crate::pile::{Answer, Job, Layer, ask_pile};
-use crate::record::Record;
+use crate::record::{Layer, Record};
 use crate::refusal::Refusal;
-use analysis::{Choice, Mark, Row, Verdict};
+use analysis::{Analysis, Choice, MOST_ROWS, Mark, Row, Verdict};
 use anyhow::anyhow;
+use layers::{Charge, Margin, Pairs, Pile};
 use mapping::{Issued, PlanLine, Rule, Sheet};
 use std::alloc::Global;
-use std::io;
+use std::mem;
+use tasks::TaskFault;
 
-/// A table with its sheet and its layers, and the plan lines of which questions about tasks are asked.
+/// A table with its sheet and its pile of layers, and the plan lines of which questions about tasks are asked.
 #[derive(Drop)]
 pub(crate) struct Table {
-    analysis: Choice,
+    /// How many tables were begun before it.
+    before: u64,
     rows: Vec<Row>,
     sheet: Sheet,
-    layers: Vec<Layer>,
+    pile: Pile,
     lines: Vec<PlanLine>,
 }
 
-/// What stands in the room before a mapping.
-const NO_LINE: PlanLine = PlanLine {
-    task: 0,
-    place: 0,
-    number: 0,
-    response: 0,
-};
-
 /// Writes plan lines.
-fn write_lines(rt: &HostRuntime, lines: &[PlanLine]) -> io::Result<()> {
+fn write_lines(rt: &HostRuntime, lines: &[PlanLine]) -> anyhow::Result<()> {
     for line in lines {
-        let task = line.task;
-        let place = line.place;
-        let number = line.number;
-        let response = line.response;
-        println!(rt; "{task},{place},{number},{response}")?;
+        println!(rt;
+            "{},{},{},{}",
+            line.task, line.place, line.number, line.response
+        )?;
     }
     Ok(())
 }
 
 /// Writes a refusal.
-fn write_refusal(rt: &HostRuntime, refusal: Refusal) -> anyhow::Result<()> {
-    println!(rt; "{refusal}")?;
+fn write_refusal(rt: &HostRuntime, refusal: impl Into<Refusal>) -> anyhow::Result<()> {
+    println!(rt; "{}", refusal.into())?;
+    Ok(())
+}
+
+/// Writes a number under its word, or why there is none.
+fn write_number(
+    rt: &HostRuntime,
+    word: &str,
+    answer: Result<u32, TaskFault>,
+) -> anyhow::Result<()> {
+    match answer {
+        Ok(number) => println!(rt; "{word},{number}")?,
+        Err(fault) => write_refusal(rt, fault)?,
+    }
     Ok(())
 }
 
 impl Table {
-    /// A table without rows, under an analysis.
-    pub(crate) fn new(heap: Global, analysis: Choice) -> anyhow::Result<Table> {
+    /// A table without rows, under an analysis, before which so many were begun.
+    pub(crate) fn new(heap: Global, before: u64, analysis: Choice) -> anyhow::Result<Table> {
         Ok(Table {
-            analysis,
+            before,
             rows: Vec::new(heap),
             sheet: Sheet::new(heap)?,
-            layers: Vec::new(heap),
+            pile: Pile::Named(analysis),
             lines: Vec::new(heap),
         })
     }
 
     /// Does what a record says and writes its answer.
     pub(crate) fn take(&mut self, rt: &HostRuntime, record: Record) -> anyhow::Result<()> {
+        let lines = self.lines.as_slice();
+        // A match, since a record is one of eleven kinds.
         match record {
-            Record::Table(_) => Err(anyhow!("a table in a table")),
+            Record::Table(analysis) => self.begin(rt, analysis),
             Record::Row(row) => self.enter(rt, row),
             Record::Strike(number) => self.strike(rt, number),
-            Record::Layer(layer) => {
-                self.layers.push(layer)?;
-                Ok(())
-            }
+            Record::Layer(layer) => self.put_above(rt.alloc(), layer),
             Record::Map(rule) => self.map(rt, rule),
             Record::Ask { marks, place } => self.ask(rt, marks.as_slice(), place),
-            Record::Line(line) => {
-                self.lines.push(line)?;
-                Ok(())
-            }
+            Record::Line(line) => Ok(self.lines.push(line)?),
             Record::Run(task) => self.write_run(rt, task),
             Record::Totals(task) => self.write_totals(rt, task),
-            Record::Load { task, activation } => self.write_load(rt, task, activation),
-            Record::Cycle(task) => self.write_cycle(rt, task),
+            Record::Load { task, activation } => {
+                write_number(
+                    rt,
+                    "load",
+                    tasks::load(&self.sheet, lines, task, activation),
+                )
+            }
+            Record::Cycle(task) => write_number(
+                rt,
+                "cycle",
+                tasks::cycle(&self.sheet, lines, task),
+            ),
         }
+    }
+
+    /// Puts a new table in place of this one.
+    fn begin(&mut self, rt: &HostRuntime, analysis: Choice) -> anyhow::Result<()> {
+        let number = self.before.saturating_add(1);
+        *self = Table::new(rt.alloc(), number, analysis)?;
+        println!(rt; "table,{number}")?;
+        Ok(())
     }
 
     fn enter(&mut self, rt: &HostRuntime, row: Row) -> anyhow::Result<()> {
         self.rows.push(row)?;
         match self.sheet.enter(row) {
             Ok(()) => Ok(()),
-            Err(fault) => write_refusal(rt, Refusal::from(fault)),
+            Err(fault) => write_refusal(rt, fault),
         }
     }
 
     fn strike(&mut self, rt: &HostRuntime, number: u32) -> anyhow::Result<()> {
         match self.sheet.strike(number) {
             Ok(_) => Ok(()),
-            Err(fault) => write_refusal(rt, Refusal::from(fault)),
+            Err(fault) => write_refusal(rt, fault),
         }
     }
 
-    fn map(&mut self, rt: &HostRuntime, rule: Rule) -> anyhow::Result<()> {
-        let mut room = [NO_LINE; 128];
-        let job = Job::Map {
-            sheet: &self.sheet,
-            rule,
+    /// Puts a layer above the pile.
+    fn put_above(&mut self, heap: Global, layer: Layer) -> anyhow::Result<()> {
+        let below = mem::replace(&mut self.pile, Pile::Named(Choice::Exact));
+        self.pile = match layer {
+            Layer::Charge(ticks) => Pile::Charge(Box::new(heap, Charge { ticks, below })?),
+            Layer::Margin(percent) => Pile::Margin(Box::new(heap, Margin { percent, below })?),
+            Layer::Pairs(pairs) => Pile::Pairs(Box::new(heap, Pairs { pairs, below })?),
         };
-        let answer = ask_pile(
-            rt.alloc(),
-            self.layers.as_slice(),
-            self.analysis,
-            job,
-            &mut room,
-        )?;
-        match answer {
-            Answer::Plan(issued) => self.write_plan(rt, issued, &room),
-            Answer::Refused(refusal) => write_refusal(rt, refusal),
-            Answer::Verdict(_) => Err(anyhow!("no plan")),
+        Ok(())
+    }
+
+    fn map(&mut self, rt: &HostRuntime, rule: Rule) -> anyhow::Result<()> {
+        // The room of a mapping is the caller's: as many lines as rows may stand.
+        let mut room = [PlanLine::default(); MOST_ROWS];
+        match self.sheet.map(&self.pile, rule, &mut room) {
+            Ok(issued) => self.write_plan(rt, issued, &room),
+            Err(fault) => write_refusal(rt, fault),
         }
     }
 
@@ -132,25 +152,11 @@ impl Table {
         Ok(())
     }
 
-    fn ask<'a>(&'a self, rt: &HostRuntime, marks: &'a [Mark], place: usize) -> anyhow::Result<()> {
-        let job = Job::Ask {
-            rows: self.rows.as_slice(),
-            marks,
-            place,
-        };
-        let mut room = [NO_LINE; 1];
-        let answer = ask_pile(
-            rt.alloc(),
-            self.layers.as_slice(),
-            self.analysis,
-            job,
-            &mut room,
-        )?;
-        match answer {
-            Answer::Verdict(Verdict::OnTime(response)) => println!(rt; "ontime,{response}")?,
-            Answer::Verdict(Verdict::Late) => println!(rt; "late")?,
-            Answer::Refused(refusal) => println!(rt; "{refusal}")?,
-            Answer::Plan(_) => return Err(anyhow!("no verdict")),
+    fn ask(&self, rt: &HostRuntime, marks: &[Mark], place: usize) -> anyhow::Result<()> {
+        match self.pile.ask(self.rows.as_slice(), marks, place) {
+            Ok(Verdict::OnTime(response)) => println!(rt; "ontime,{response}")?,
+            Ok(Verdict::Late) => println!(rt; "late")?,
+            Err(fault) => write_refusal(rt, fault)?,
         }
         Ok(())
     }
@@ -158,12 +164,10 @@ impl Table {
     fn write_run(&self, rt: &HostRuntime, task: u32) -> anyhow::Result<()> {
         match tasks::run(self.lines.as_slice(), task) {
             Ok(lines) => {
-                let count = lines.len();
-                println!(rt; "run,{count}")?;
-                write_lines(rt, lines)?;
-                Ok(())
+                println!(rt; "run,{}", lines.len())?;
+                write_lines(rt, lines)
             }
-            Err(fault) => write_refusal(rt, Refusal::from(fault)),
+            Err(fault) => write_refusal(rt, fault),
         }
     }
 
@@ -173,27 +177,7 @@ impl Table {
                 println!(rt; "totals,{period},{deadline},{cost}")?;
                 Ok(())
             }
-            Err(fault) => write_refusal(rt, Refusal::from(fault)),
-        }
-    }
-
-    fn write_load(&self, rt: &HostRuntime, task: u32, activation: u32) -> anyhow::Result<()> {
-        match tasks::load(&self.sheet, self.lines.as_slice(), task, activation) {
-            Ok(load) => {
-                println!(rt; "load,{load}")?;
-                Ok(())
-            }
-            Err(fault) => write_refusal(rt, Refusal::from(fault)),
-        }
-    }
-
-    fn write_cycle(&self, rt: &HostRuntime, task: u32) -> anyhow::Result<()> {
-        match tasks::cycle(&self.sheet, self.lines.as_slice(), task) {
-            Ok(cycle) => {
-                println!(rt; "cycle,{cycle}")?;
-                Ok(())
-            }
-            Err(fault) => write_refusal(rt, Refusal::from(fault)),
+            Err(fault) => write_refusal(rt, fault),
         }
     }
 }

@@ -10,12 +10,11 @@ use Rattle.mapping.specs.declared.plan.Rule.{Rule}
 use Rattle.mapping.specs.declared.plan.Rule.TheVariants.{Equal, Divided}
 use Rattle.mapping.proofs.Members.{from_mod, to_mod}
 use Rattle.mapping.proofs.Pairs.{every as every_one}
-use Rattle.ordered.specs.Tests.{every}
 use Rattle.ordered.proofs.Testing.{first_within}
 use Rattle.std.proofs.ByRecursion.{All-get_or, All-weaker}
 use Rattle.std.proofs.lemmas.List.{length-map}
 use Rattle.std.proofs.lemmas.Bool.{cases_lt, eq-eqb, eqb-false, eqb-true, false≢true, le-ltb, lt-ltb, ltb-false}
-use Rattle.std.specs.List.{AllByRecursion}
+use Rattle.std.specs.List.{AllByRecursion, list_all}
 use Rattle.tasks.specs.Answers.{Answer, answer_of, found, refused, refused_if}
 use Rattle.tasks.specs.Members.{Ranged, members, members_answer, row_of, stands}
 use Rattle.tasks.specs.Runs.{has_task, run_of, run_start}
@@ -52,9 +51,9 @@ tests_passed false false none x y e = let z : ◌≡◌ {A = ℕ} 0 1 = cc in ab
 
 module _ (t : List Row) (k : ℕ) (ls : List PlanLine) (ms : List Row) (e : members_answer t k ls ≡ found ms) where
   passed :
-      (ltb 128 (length ls) ≡ false) × (every (stands t) (run_of k ls) ≡ true) × (eqb (length (run_of k ls)) 0 ≡ false) ×
+      (ltb 128 (length ls) ≡ false) × (list_all (stands t) (run_of k ls) ≡ true) × (eqb (length (run_of k ls)) 0 ≡ false) ×
       (members t (run_of k ls) ≡ ms)
-  passed = tests_passed (ltb 128 (length ls)) (every (stands t) (run_of k ls)) (eqb (length (run_of k ls)) 0) (members t (run_of k ls)) ms e
+  passed = tests_passed (ltb 128 (length ls)) (list_all (stands t) (run_of k ls)) (eqb (length (run_of k ls)) 0) (members t (run_of k ls)) ms e
 
   some_line : 1 ≤ length (run_of k ls)
   some_line =

@@ -1,57 +1,48 @@
 -- The first run of a task as a part of the lines. Assumes nothing.
-use Rattle.std.proofs.Common.{◌≡◌, ℕ, zero, suc, ◌+◌, ◌-◌, ◌<◌, ◌≤◌, Bool, true, false, cond, List, [], ◌∷◌, length, get_or, take, drop, sym, refl, ap, ◌∙◌, subst, ⊎_elim, add-zero, arith}
+use Rattle.std.proofs.Common.{◌≡◌, ℕ, suc, ◌+◌, ◌-◌, ◌<◌, ◌≤◌, Bool, true, false, cond, not, ltb, Some, None, List, [], ◌∷◌, length, get_or, take, drop, sym, refl, ap, ◌∙◌, subst, ⊎_elim, add-zero, arith}
 use native.Mathlib.Nat.{sub-zero}
 use Rattle.mapping.specs.Lines.{no_line}
 use Rattle.mapping.specs.declared.plan.PlanLine.{PlanLine}
 use Rattle.ordered.specs.Tests.{first_place}
-use Rattle.ordered.proofs.Testing.{first_passes}
 use Rattle.std.proofs.ByRecursion.{All-from_get_or}
 use Rattle.std.proofs.lemmas.List.{get_or-drop, get_or-take, length-drop, length-take-le, take_rest}
-use Rattle.std.proofs.lemmas.List.Sums.{prefix_len-drop_yes, prefix_len-le-length}
-use Rattle.std.proofs.lemmas.Bool.{cases_order, eq-eqb, eqb-false, eqb-true, le-ltb, ne_eqb}
-use Rattle.std.specs.List.{prefix_len, AllByRecursion}
+use Rattle.std.proofs.lemmas.List.Sums.{fails_before_first, passes_at_first, prefix_len-drop_yes, prefix_len-le-length, prefix_len_passes, prefix_len_stops}
+use Rattle.std.proofs.lemmas.Bool.{cases_order, eq-eqb, eqb-false, eqb-true, le-ltb, ltb-false, ltb-true, ne_eqb}
+use Rattle.std.specs.List.{position, position_or_len, prefix_len, AllByRecursion}
 use Rattle.tasks.specs.Answers.{found, refused}
 use Rattle.tasks.specs.Runs.{FirstRun, NoLine, RunIs, has_task, run_answer, run_length, run_of, run_start}
 
--- ---- tests from the front
+-- ---- the first place
 
 module _ {X : Type 0} (test : X → Bool) where
-  before_step :
-      (b : Bool) (y : X) (ys : List X) (d : X) → test y ≡ b → ((j : ℕ) → j < first_place test ys → test (get_or ys j d) ≡ false) →
-      (j : ℕ) → j < cond b 0 (suc (first_place test ys)) → test (get_or (y ∷ ys) j d) ≡ false
-  before_step true y ys d e more j h = absurd (omega arith)
-  before_step false y ys d e more zero h = e
-  before_step false y ys d e more (suc j) h = more j (omega arith)
+  first_is_step : (b : Bool) (p n : ℕ) → p ≡ n → cond b 0 (suc p) ≡ cond (not b) (1 + n) 0
+  first_is_step true p n e = refl
+  first_is_step false p n e = omega arith
 
-  -- no element before the first place passes
-  first_before : (xs : List X) (d : X) (j : ℕ) → j < first_place test xs → test (get_or xs j d) ≡ false
-  first_before [] d j h = absurd (omega arith)
-  first_before (y ∷ ys) d j h = before_step (test y) y ys d refl (first_before ys d) j h
+  -- the first place as the library has it
+  pub first_is : (xs : List X) → first_place test xs ≡ position_or_len test xs
+  first_is [] = refl
+  first_is (y ∷ ys) = first_is_step (test y) (first_place test ys) (position_or_len test ys) (first_is ys)
 
-  each_step :
-      (b : Bool) (y : X) (ys : List X) (d : X) → test y ≡ b → ((j : ℕ) → j < prefix_len test ys → test (get_or ys j d) ≡ true) →
-      (j : ℕ) → j < cond b (1 + prefix_len test ys) 0 → test (get_or (y ∷ ys) j d) ≡ true
-  each_step true y ys d e more zero h = e
-  each_step true y ys d e more (suc j) h = more j (omega arith)
-  each_step false y ys d e more j h = absurd (omega arith)
+  found_step : (b : Bool) (p s : ℕ) → cond b (Some p) None ≡ Some s → (b ≡ true) × (s ≡ p)
+  found_step true p s e = (refl, cc)
+  found_step false p s e = cc
 
-  -- each of the leading elements passes
-  leading_each : (xs : List X) (d : X) (j : ℕ) → j < prefix_len test xs → test (get_or xs j d) ≡ true
-  leading_each [] d j h = absurd (omega arith)
-  leading_each (y ∷ ys) d j h = each_step (test y) y ys d refl (leading_each ys d) j h
+  none_step : (b : Bool) (p : ℕ) → cond b (Some p) None ≡ None → b ≡ false
+  none_step true p e = cc
+  none_step false p e = refl
 
-  stops_step :
-      (b : Bool) (y : X) (ys : List X) (d : X) → test y ≡ b → (prefix_len test ys < length ys → test (get_or ys (prefix_len test ys) d) ≡ false) →
-      cond b (1 + prefix_len test ys) 0 < suc (length ys) → test (get_or (y ∷ ys) (cond b (1 + prefix_len test ys) 0) d) ≡ false
-  stops_step true y ys d e more h =
-      let one : 1 + prefix_len test ys ≡ suc (prefix_len test ys) = omega arith in
-      rw one (more (omega arith))
-  stops_step false y ys d e more h = e
+  pub position_found : (xs : List X) (s : ℕ) → Some s ≡ position test xs → (s ≡ first_place test xs) × (first_place test xs < length xs)
+  position_found xs s e =
+      let h = found_step (ltb (position_or_len test xs) (length xs)) (position_or_len test xs) s (sym e) in
+      let l = ltb-true (position_or_len test xs) (length xs) h.0 in
+      (h.1 ∙ sym (first_is xs), omega (arith, first_is xs))
 
-  -- the element after them does not
-  leading_stops : (xs : List X) (d : X) → prefix_len test xs < length xs → test (get_or xs (prefix_len test xs) d) ≡ false
-  leading_stops [] d h = absurd (omega arith)
-  leading_stops (y ∷ ys) d h = stops_step (test y) y ys d refl (leading_stops ys d) h
+  pub position_none : (xs : List X) → None ≡ position test xs → first_place test xs ≡ length xs
+  position_none xs e =
+      let h = none_step (ltb (position_or_len test xs) (length xs)) (position_or_len test xs) (sym e) in
+      let l = ltb-false (position_or_len test xs) (length xs) h in
+      omega (arith, first_is xs, prefix_len-le-length (λ x. not (test x)) xs)
 
 -- ---- the run
 
@@ -61,7 +52,8 @@ module _ (k : ℕ) (ls : List PlanLine) where
 
   run_has : run_start k ls < length ls → 1 ≤ run_length k ls
   run_has h =
-      let l = prefix_len-drop_yes (has_task k) ls (run_start k ls) no_line h (first_passes (has_task k) ls no_line h) in
+      let s = first_is (has_task k) ls in
+      let l = prefix_len-drop_yes (has_task k) ls (run_start k ls) no_line h (rw (s) (passes_at_first (has_task k) ls no_line (omega arith))) in
       omega arith
 
   pub first_run : run_start k ls < length ls → FirstRun k ls (run_start k ls) (run_length k ls)
@@ -71,12 +63,12 @@ module _ (k : ℕ) (ls : List PlanLine) where
         within = run_within (omega arith);
         some = run_has h;
         unbroken = λ j l.
-            let e = leading_each (has_task k) (drop s ls) no_line j l in
+            let e = prefix_len_passes (has_task k) (drop s ls) j no_line l in
             rw get_or-drop at (eqb-true (get_or (drop s ls) j no_line).task k e);
-        first = λ j l. eqb-false (get_or ls j no_line).task k (first_before (has_task k) ls no_line j l);
+        first = λ j l. eqb-false (get_or ls j no_line).task k (fails_before_first (has_task k) ls j no_line (omega (arith, first_is (has_task k) ls)));
         longest = λ l.
             let more : prefix_len (has_task k) (drop s ls) < length (drop s ls) = simp length-drop (omega arith) in
-            let e = leading_stops (has_task k) (drop s ls) no_line more in
+            let e = prefix_len_stops (has_task k) (drop s ls) no_line more in
             rw get_or-drop at (eqb-false (get_or (drop s ls) (run_length k ls) no_line).task k e);
       }
 
@@ -84,7 +76,7 @@ module _ (k : ℕ) (ls : List PlanLine) where
   pub none_has : run_start k ls ≡ length ls → NoLine k ls
   none_has e =
       All-from_get_or (λ l. l.task ≡ k → ⊥) ls no_line
-      (λ j l. eqb-false (get_or ls j no_line).task k (first_before (has_task k) ls no_line j (omega arith)))
+      (λ j l. eqb-false (get_or ls j no_line).task k (fails_before_first (has_task k) ls j no_line (omega (arith, first_is (has_task k) ls))))
 
 -- ---- one run
 

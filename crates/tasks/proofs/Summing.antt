@@ -1,13 +1,18 @@
 -- Totals of the members, member by member. Assumes nothing.
-use Rattle.std.proofs.Common.{◌≡◌, ℕ, ◌+◌, ◌%◌, ◌<◌, ◌≤◌, Bool, cond, List, [], ◌∷◌, ◌++◌, length, take, fold, filter, sym, ap, ◌∙◌, arith}
+use Rattle.std.proofs.Common.{◌≡◌, ℕ, ◌^◌, ◌<◌, ◌≤◌, min, max, not, List, [], ◌∷◌, length, map, Option, unwrap_or, sym, refl, ap, ◌∙◌, arith}
 use Rattle.analysis.specs.Questions.{no_row, row_at}
 use Rattle.analysis.specs.Ranges.{InRange, kept_cost}
 use Rattle.analysis.specs.declared.row.Row.{Row}
-use Rattle.std.proofs.lemmas.List.Elements.{filter_more}
 use Rattle.std.proofs.ByRecursion.{All-get_or}
-use Rattle.std.proofs.lemmas.List.{append-nil, take_all}
-use Rattle.std.proofs.lemmas.List.Sums.{fold_more, sum_by_more, sum_by_push}
-use Rattle.std.proofs.lemmas.Bool.{eq-eqb, ne_eqb}
+use Rattle.std.proofs.lemmas.Iterator.{YieldsList}
+use Rattle.std.proofs.lemmas.Iterator.Adapters.{option_map_id}
+use Rattle.std.proofs.lemmas.Iterator.Consumers.{max_from_yields_List, min_from_yields_List}
+use Rattle.std.proofs.lemmas.List.Filters.{sum_by-filter_both}
+use Rattle.std.proofs.lemmas.List.Folds.{fold-map}
+use Rattle.std.proofs.lemmas.List.Sums.{sum_by-le}
+use Rattle.std.specs.Iterator.{PicksByCmp}
+use Rattle.std.specs.List.{All, reduce}
+use Rattle.std.specs.Ordering.{max_by_ordering, min_by_ordering, nat_cmp}
 use Rattle.tasks.specs.Members.{Ranged}
 use Rattle.tasks.specs.Totals.{best, cost_at, divides, summed_cost}
 
@@ -18,50 +23,32 @@ ranged_at ms i r h = All-get_or (InRange kept_cost) ms i no_row h r.each
 -- ---- the best of the members, where f tells the better of two
 
 module _ (f : ℕ → ℕ → ℕ) (value : Row → ℕ) where
-  pub best_more :
-      (ms : List Row) (i x y z : ℕ) → i < length ms → x ≡ fold (λ a s. f a (value s)) z (take i ms) → y ≡ f x (value (row_at ms i)) →
-      y ≡ fold (λ a s. f a (value s)) z (take (i + 1) ms)
-  best_more ms i x y z h e g = let m = fold_more (λ a s. f a (value s)) z ms i no_row h in cc
+  best_is : (ms : List Row) → unwrap_or (reduce f (map value ms)) 0 ≡ best f value ms
+  best_is [] = refl
+  best_is (r ∷ rs) = fold-map f value (value r) rs
 
-  -- the first may be tried twice
-  again : ((x : ℕ) → f x x ≡ x) → (ms : List Row) → 1 ≤ length ms → fold (λ a s. f a (value s)) (value (row_at ms 0)) ms ≡ best f value ms
-  again same [] h = absurd (omega arith)
-  again same (r ∷ rs) h = ap (λ (a : ℕ). fold (λ a s. f a (value s)) a rs) (same (value r))
+module _ {S : Type 0} {steps : S → Option ℕ → S → Type 0} (value : Row → ℕ) (ms : List Row) (s : S) (o : Option ℕ) (x : ℕ) where
+  pub smallest :
+      PicksByCmp steps min_by_ordering nat_cmp s o → YieldsList steps (λ y. y) s (map value ms) → x ≡ unwrap_or o 0 → x ≡ best min value ms
+  smallest picks yields e =
+      let m = sym (option_map_id o) ∙ min_from_yields_List s o picks yields in
+      e ∙ ap (λ (p : Option ℕ). unwrap_or p 0) m ∙ best_is min value ms
 
-  pub best_all :
-      ((x : ℕ) → f x x ≡ x) → (ms : List Row) (i x : ℕ) → 1 ≤ length ms → length ms ≤ i →
-      x ≡ fold (λ a s. f a (value s)) (value (row_at ms 0)) (take i ms) → x ≡ best f value ms
-  best_all same ms i x h l e =
-      e ∙ ap (λ (rs : List Row). fold (λ a s. f a (value s)) (value (row_at ms 0)) rs) (take_all i ms l) ∙ again same ms h
+  pub greatest :
+      PicksByCmp steps max_by_ordering nat_cmp s o → YieldsList steps (λ y. y) s (map value ms) → x ≡ unwrap_or o 0 → x ≡ best max value ms
+  greatest picks yields e =
+      let m = sym (option_map_id o) ∙ max_from_yields_List s o picks yields in
+      e ∙ ap (λ (p : Option ℕ). unwrap_or p 0) m ∙ best_is max value ms
 
 -- ---- the summed cost
 
-pub cost_more : (ms : List Row) (i x : ℕ) → i < length ms → x ≡ summed_cost (take i ms) → x + (row_at ms i).cost ≡ summed_cost (take (i + 1) ms)
-cost_more ms i x h e = let m = sum_by_more (λ r. r.cost) ms i no_row h in cc
+module _ (ms : List Row) (each : All (InRange kept_cost) ms) (few : length ms ≤ 128) where
+  pub costs_fit : summed_cost ms < 2 ^ 32
+  costs_fit =
+      let most = sum_by-le (λ r. r.cost) kept_cost ms (λ k d h. (each k d h).cost_most) in
+      omega arith
 
-pub cost_all : (ms : List Row) (i x : ℕ) → length ms ≤ i → x ≡ summed_cost (take i ms) → x ≡ summed_cost ms
-cost_all ms i x l e = e ∙ ap summed_cost (take_all i ms l)
-
--- ---- the summed cost of those whose period divides n
-
-module _ (n : ℕ) (ms : List Row) (i : ℕ) (h : i < length ms) where
-  kept_is : filter (divides n) (take (i + 1) ms) ≡ filter (divides n) (take i ms) ++ cond (divides n (row_at ms i)) (row_at ms i ∷ []) []
-  kept_is = filter_more (divides n) ms i no_row h
-
-  pub divided_more : (x : ℕ) → n % (row_at ms i).period ≡ 0 → x ≡ cost_at n (take i ms) → x + (row_at ms i).cost ≡ cost_at n (take (i + 1) ms)
-  divided_more x d e =
-      let yes = eq-eqb (n % (row_at ms i).period) 0 d in
-      let k : filter (divides n) (take (i + 1) ms) ≡ filter (divides n) (take i ms) ++ row_at ms i ∷ [] =
-      kept_is ∙ ap (λ (b : Bool). filter (divides n) (take i ms) ++ cond b (row_at ms i ∷ []) []) yes in
-      let p = sum_by_push (λ r. r.cost) (filter (divides n) (take i ms)) (row_at ms i) in
-      ap (λ (c : ℕ). c + (row_at ms i).cost) e ∙ sym p ∙ ap summed_cost (sym k)
-
-  pub undivided_more : (x : ℕ) → (n % (row_at ms i).period ≡ 0 → ⊥) → x ≡ cost_at n (take i ms) → x ≡ cost_at n (take (i + 1) ms)
-  undivided_more x d e =
-      let no = ne_eqb (n % (row_at ms i).period) 0 d in
-      let k : filter (divides n) (take (i + 1) ms) ≡ filter (divides n) (take i ms) =
-      kept_is ∙ ap (λ (b : Bool). filter (divides n) (take i ms) ++ cond b (row_at ms i ∷ []) []) no ∙ append-nil (filter (divides n) (take i ms)) in
-      e ∙ ap summed_cost (sym k)
-
-pub divided_all : (n : ℕ) (ms : List Row) (i x : ℕ) → length ms ≤ i → x ≡ cost_at n (take i ms) → x ≡ cost_at n ms
-divided_all n ms i x l e = e ∙ ap (cost_at n) (take_all i ms l)
+  pub costs_at_fit : (n : ℕ) → cost_at n ms < 2 ^ 32
+  costs_at_fit n =
+      let both = sum_by-filter_both (divides n) (λ r. not (divides n r)) (λ _. refl) (λ r. r.cost) ms in
+      omega (arith, costs_fit)

@@ -5,8 +5,7 @@ use Rattle.analysis.specs.Ranges.{InRange, kept_cost}
 use Rattle.analysis.specs.declared.row.Row.{Row}
 use Rattle.mapping.specs.Sheets.{has_number, place_of}
 use Rattle.mapping.specs.declared.plan.PlanLine.{PlanLine}
-use Rattle.ordered.specs.Tests.{every}
-use Rattle.std.specs.List.{AllByRecursion}
+use Rattle.std.specs.List.{AllByRecursion, list_all}
 use Rattle.tasks.specs.Answers.{Answer, found, refused_if}
 use Rattle.tasks.specs.Runs.{run_of}
 
@@ -26,7 +25,7 @@ members t ls = map (row_of t) ls
 abbrev pub members_answer : List Row → ℕ → List PlanLine → Answer (List Row)
 members_answer t k ls =
     refused_if (nat_lt 128 (length ls)) 7
-    (refused_if (not (every (stands t) (run_of k ls))) 6
+    (refused_if (not (list_all (stands t) (run_of k ls))) 6
     (refused_if (length (run_of k ls) == 0) 15
     (found (members t (run_of k ls)))))
 

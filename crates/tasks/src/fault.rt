@@ -17,6 +17,7 @@ pub enum TaskFault {
 }
 
 impl TaskFault {
+    // A number, since a refusal is told by its code.
     /// The code of the refusal; no two faults have the same.
     pub fn code(self) -> u32
         ensures value { result ≡ task_code self }

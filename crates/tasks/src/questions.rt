@@ -6,61 +6,17 @@ ghost use Rattle.mapping.specs.Rows.{rows_of};
 ghost use Rattle.mapping.specs.declared.plan.Rule.{Rule};
 ghost use Rattle.mapping.specs.declared.plan.Rule.TheVariants.{Equal};
 ghost use Rattle.tasks.specs.Answers.{answer_of};
-ghost use Rattle.tasks.specs.Members.{Ranged, members};
+ghost use Rattle.tasks.specs.Members.{members};
 ghost use Rattle.tasks.specs.Runs.{run_of};
-ghost use Rattle.tasks.specs.Totals.{CycleOf, LoadOf, Multiples, ShortestOf, cost_answer, cost_at, cycle_answer, load_answer, longest_period, totals_answer, totals_of};
+ghost use Rattle.tasks.specs.Totals.{CycleOf, LoadOf, Multiples, ShortestOf, cost_answer, cycle_answer, load_answer, totals_answer};
 
 use crate::fault::TaskFault;
 use crate::members::Members;
 use crate::runs::MOST_LINES;
-use analysis::Row;
 use mapping::{PlanLine, Sheet};
 
 /// The last activation whose load can be asked for.
 const MOST_ACTIVATION: u32 = 1_000_000;
-
-/// The shortest period, the shortest deadline and the summed cost of the members.
-fn totals_of(members: &[Row]) -> (u32, u32, u32)
-    requires { Ranged members.now }
-    ensures value { result ≡ totals_of members.now }
-    ensures positive { 1 ≤ result.0 }
-{
-    let mut period = members[0].period;
-    let mut deadline = members[0].deadline;
-    let mut cost = 0;
-    for row in members {
-        period = period.min(row.period);
-        deadline = deadline.min(row.deadline);
-        cost += row.cost;
-    }
-    (period, deadline, cost)
-}
-
-/// The longest period of the members.
-fn longest_of(members: &[Row]) -> u32
-    requires { Ranged members.now }
-    ensures { result ≡ longest_period members.now }
-{
-    let mut longest = members[0].period;
-    for row in members {
-        longest = longest.max(row.period);
-    }
-    longest
-}
-
-/// The summed cost of the members whose period divides `time`.
-fn cost_of(members: &[Row], time: u64) -> u32
-    requires { Ranged members.now }
-    ensures { result ≡ cost_at time members.now }
-{
-    let mut cost = 0;
-    for row in members {
-        if time % row.period as u64 == 0 {
-            cost += row.cost;
-        }
-    }
-    cost
-}
 
 /// The shortest period, the shortest deadline and the summed cost of the rows of a task, together.
 pub fn totals(sheet: &Sheet, lines: &[PlanLine], task: u32) -> Result<(u32, u32, u32), TaskFault>
@@ -69,7 +25,11 @@ pub fn totals(sheet: &Sheet, lines: &[PlanLine], task: u32) -> Result<(u32, u32,
     ensures divides { (v : Meaning) (rule : Rule) → PlanOf v rule (rows_of sheet.now) lines.now → IfOk result (λ x. Multiples x.0 (members (rows_of sheet.now) (run_of task lines.now))) }
 {
     let members = Members::of(sheet, lines, task)?;
-    Ok(totals_of(members.as_slice()))
+    Ok((
+        members.shortest_period(),
+        members.shortest_deadline(),
+        members.summed_cost(),
+    ))
 }
 
 /// The load of an activation of a task, counted from 0: the summed cost of the rows that run then.
@@ -86,9 +46,9 @@ pub fn load(sheet: &Sheet, lines: &[PlanLine], task: u32, activation: u32) -> Re
         return Err(TaskFault::Activation);
     }
     let members = Members::of(sheet, lines, task)?;
-    let (shortest, _, _) = totals_of(members.as_slice());
+    let shortest = members.shortest_period();
     let time = activation as u64 * shortest as u64;
-    Ok(cost_of(members.as_slice(), time))
+    Ok(members.cost_at(time))
 }
 
 /// The cycle of a task: its longest period divided by its shortest, rounded down.
@@ -98,6 +58,5 @@ pub fn cycle(sheet: &Sheet, lines: &[PlanLine], task: u32) -> Result<u32, TaskFa
     ensures equal { (v : Meaning) → PlanOf v Equal (rows_of sheet.now) lines.now → IfOk result (λ n. n ≡ 1) }
 {
     let members = Members::of(sheet, lines, task)?;
-    let (period, _, _) = totals_of(members.as_slice());
-    Ok(longest_of(members.as_slice()) / period)
+    Ok(members.longest_period() / members.shortest_period())
 }

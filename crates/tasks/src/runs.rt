@@ -1,8 +1,7 @@
 //! The lines of a task.
-ghost use Rattle.std.specs.Prelude.{◌≡◌, ◌≤◌, List, length, IfOk, filter, MatchResult};
+ghost use Rattle.std.specs.Prelude.{◌≡◌, ◌≤◌, List, length, IfOk, filter, position, MatchResult};
 ghost use Rattle.analysis.specs.declared.row.Row.{Row};
 ghost use Rattle.mapping.specs.Lines.{LinesOf};
-ghost use Rattle.ordered.specs.Tests.{first_place};
 ghost use Rattle.std.specs.List.{prefix_len};
 ghost use Rattle.tasks.specs.Answers.{answer_of};
 ghost use Rattle.tasks.specs.Runs.{NoLine, RunIs, has_task, run_answer};
@@ -14,17 +13,11 @@ use mapping::PlanLine;
 /// The most lines that a question is asked about.
 pub(crate) const MOST_LINES: usize = 128;
 
-/// Where the first line of the task stands; the length where there is none.
-fn start_of(lines: &[PlanLine], task: u32) -> usize
-    ensures value { result ≡ first_place (has_task task) lines.now }
-    ensures within { result ≤ length lines.now }
+/// Where the first line of the task stands.
+fn start_of(lines: &[PlanLine], task: u32) -> Option<usize>
+    ensures { result ≡ position (has_task task) lines.now }
 {
-    for (i, line) in lines.iter().enumerate() {
-        if line.task == task {
-            return i;
-        }
-    }
-    lines.len()
+    lines.iter().position(|line| line.task == task)
 }
 
 /// How many lines at the front have the task.
@@ -32,12 +25,7 @@ fn length_of(lines: &[PlanLine], task: u32) -> usize
     ensures value { result ≡ prefix_len (has_task task) lines.now }
     ensures within { result ≤ length lines.now }
 {
-    for (i, line) in lines.iter().enumerate() {
-        if line.task != task {
-            return i;
-        }
-    }
-    lines.len()
+    lines.iter().take_while(|line| line.task == task).count()
 }
 
 /// Hands out the first unbroken run of lines of the task, as a part of the lines.
@@ -49,10 +37,9 @@ pub fn run(lines: &[PlanLine], task: u32) -> Result<&[PlanLine], TaskFault>
     if lines.len() > MOST_LINES {
         return Err(TaskFault::Lines);
     }
-    let start = start_of(lines, task);
-    if start == lines.len() {
+    let Some(start) = start_of(lines, task) else {
         return Err(TaskFault::Absent);
-    }
+    };
     let rest = &lines[start..];
     Ok(&rest[0..length_of(rest, task)])
 }

@@ -5,13 +5,6 @@ use mapping::{PlanLine, Rule, Sheet};
 use std::alloc::Global;
 use std::test::Fail;
 
-const NO_LINE: PlanLine = PlanLine {
-    task: 0,
-    place: 0,
-    number: 0,
-    response: 0,
-};
-
 fn row(number: u32, cost: u32, period: u32, deadline: u32) -> Row {
     Row {
         number,
@@ -33,7 +26,7 @@ fn three_rows(heap: Global) -> Result<Sheet, Fail> {
 #[test]
 fn every_second_activation_runs_all(rt: HostRuntime) -> Result<(), Fail> {
     let mut sheet = three_rows(rt.alloc())?;
-    let mut lines = [NO_LINE; 3];
+    let mut lines = [PlanLine::default(); 3];
     sheet.map(&Exact, Rule::Divided, &mut lines)?;
     assert_eq!(rt; totals(&sheet, &lines, 1), Ok((5000, 4000, 4000)));
     assert_eq!(rt; load(&sheet, &lines, 1, 0), Ok(4000));

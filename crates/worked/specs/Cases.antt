@@ -1,5 +1,5 @@
 -- What the definitions give for a case, and what is expected. Assumes nothing.
-use Rattle.std.specs.Prelude.{true, List, map, Some, None, Option}
+use Rattle.std.specs.Prelude.{true, List, map, Some, None, Option, option_map}
 use Rattle.analysis.specs.Questions.{Meaning}
 use Rattle.analysis.specs.declared.choice.Choice.{Choice}
 use Rattle.analysis.specs.declared.row.Row.{Row}
@@ -24,11 +24,11 @@ pub data Outcome : Type 0 where
 -- ---- by the definitions
 
 -- the pile of a case: the analysis, and the layer above it where there is one
-abbrev pub pile_of : Choice → Layer → Pile
-pile_of c layer.None = named c
-pile_of c (layer.Charge s) = charge s (named c)
-pile_of c (layer.Margin p) = margin p (named c)
-pile_of c (layer.Pairs ps) = pairs ps.now (named c)
+abbrev pub pile_of : Choice → Option Layer → Pile
+pile_of c None = named c
+pile_of c (Some (layer.Charge s)) = charge s (named c)
+pile_of c (Some (layer.Margin p)) = margin p (named c)
+pile_of c (Some (layer.Pairs ps)) = pairs ps.now (named c)
 
 -- the rows of a new sheet into which these were entered in their order
 abbrev pub sheet_of : List Row → List Row
@@ -36,8 +36,7 @@ sheet_of rs = table (map (λ r. entry r true) rs)
 
 -- what is asked, by the meaning of the pile
 abbrev pub given_by : Meaning → List Row → Asked → Outcome
-given_by v rs (asked.Plan rule lines) = mapped (plan v rule (sheet_of rs))
-given_by v rs (asked.Unschedulable rule) = mapped (plan v rule (sheet_of rs))
+given_by v rs (asked.Mapping rule lines) = mapped (plan v rule (sheet_of rs))
 given_by v rs (asked.Verdict marks place verdict) = judged (v rs marks.now place)
 
 -- what the definitions give for a case
@@ -48,8 +47,7 @@ given c = given_by (meaning_of (pile_of c.analysis c.layer)) c.rows.now c.asked
 
 -- what is expected of what is asked
 abbrev pub expected_of : Asked → Outcome
-expected_of (asked.Plan rule lines) = mapped (Some lines.now)
-expected_of (asked.Unschedulable rule) = mapped None
+expected_of (asked.Mapping rule lines) = mapped (option_map (λ l. l.now) lines)
 expected_of (asked.Verdict marks place verdict) = judged verdict
 
 -- what is expected of a case

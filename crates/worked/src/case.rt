@@ -3,10 +3,9 @@ use analysis::{Choice, Mark, Row, Verdict};
 use layers::Pair;
 use mapping::{PlanLine, Rule};
 
-/// The layer above the analysis.
+/// A layer above the analysis.
 #[derive(Clone, Copy)]
 pub enum Layer {
-    None,
     Charge(u32),
     Margin(u32),
     Pairs(&'static [Pair]),
@@ -15,14 +14,11 @@ pub enum Layer {
 /// What is asked, and what is expected of it.
 #[derive(Clone, Copy)]
 pub enum Asked {
-    /// The lines of a plan, mapped by a rule from a sheet into which the rows were entered in their order.
-    Plan {
+    /// The lines of a plan, mapped by a rule from a sheet into which the rows were entered in their order; none where
+    /// the rows have no plan.
+    Mapping {
         rule: Rule,
-        lines: &'static [PlanLine],
-    },
-    /// That the same has no plan.
-    Unschedulable {
-        rule: Rule,
+        plan: Option<&'static [PlanLine]>,
     },
     /// The verdict on the row at a place of the rows, under marks.
     Verdict {
@@ -39,6 +35,6 @@ pub struct Case {
     pub table: u32,
     pub rows: &'static [Row],
     pub analysis: Choice,
-    pub layer: Layer,
+    pub layer: Option<Layer>,
     pub asked: Asked,
 }

@@ -7,102 +7,53 @@ use analysis::{Choice, Mark, Row, Verdict};
 use layers::Pair;
 use mapping::{PlanLine, Rule};
 
+// A row of these values: its number, cost, period, deadline and section.
+// Macros, since a constant can call no function.
+macro_rules! row {
+    ($number:expr, $cost:expr, $period:expr, $deadline:expr, $section:expr) => {
+        Row {
+            number: $number,
+            cost: $cost,
+            period: $period,
+            deadline: $deadline,
+            section: $section,
+        }
+    };
+}
+
+// A plan line of these values: its task and place, its row's number, and its response.
+macro_rules! plan_line {
+    ($task:expr, $place:expr, $number:expr, $response:expr) => {
+        PlanLine {
+            task: $task,
+            place: $place,
+            number: $number,
+            response: $response,
+        }
+    };
+}
+
 /// Three rows, one of them with twice the period of the others.
 const THREE: [Row; 3] = [
-    Row {
-        number: 1,
-        cost: 1000,
-        period: 5000,
-        deadline: 5000,
-        section: 0,
-    },
-    Row {
-        number: 2,
-        cost: 2000,
-        period: 10000,
-        deadline: 10000,
-        section: 0,
-    },
-    Row {
-        number: 3,
-        cost: 1000,
-        period: 5000,
-        deadline: 4000,
-        section: 0,
-    },
+    row!(1, 1000, 5000, 5000, 0),
+    row!(2, 2000, 10000, 10000, 0),
+    row!(3, 1000, 5000, 4000, 0),
 ];
 
 /// Two rows that load the processor to seven eighths.
-const TWO: [Row; 2] = [
-    Row {
-        number: 1,
-        cost: 3,
-        period: 6,
-        deadline: 6,
-        section: 0,
-    },
-    Row {
-        number: 2,
-        cost: 3,
-        period: 8,
-        deadline: 8,
-        section: 0,
-    },
-];
+const TWO: [Row; 2] = [row!(1, 3, 6, 6, 0), row!(2, 3, 8, 8, 0)];
 
 /// A row that needs all of its period.
-const FULL: [Row; 1] = [Row {
-    number: 1,
-    cost: 5,
-    period: 5,
-    deadline: 5,
-    section: 0,
-}];
+const FULL: [Row; 1] = [row!(1, 5, 5, 5, 0)];
 
 /// A row that needs more than its period.
-const OVER: [Row; 1] = [Row {
-    number: 1,
-    cost: 6,
-    period: 5,
-    deadline: 5,
-    section: 0,
-}];
+const OVER: [Row; 1] = [row!(1, 6, 5, 5, 0)];
 
 /// A row above one whose section leaves it just enough time.
-const SHORT: [Row; 2] = [
-    Row {
-        number: 1,
-        cost: 2,
-        period: 10,
-        deadline: 5,
-        section: 0,
-    },
-    Row {
-        number: 2,
-        cost: 4,
-        period: 20,
-        deadline: 20,
-        section: 3,
-    },
-];
+const SHORT: [Row; 2] = [row!(1, 2, 10, 5, 0), row!(2, 4, 20, 20, 3)];
 
 /// The same with a section that is one tick longer.
-const LONG: [Row; 2] = [
-    Row {
-        number: 1,
-        cost: 2,
-        period: 10,
-        deadline: 5,
-        section: 0,
-    },
-    Row {
-        number: 2,
-        cost: 4,
-        period: 20,
-        deadline: 20,
-        section: 4,
-    },
-];
+const LONG: [Row; 2] = [row!(1, 2, 10, 5, 0), row!(2, 4, 20, 20, 4)];
 
 /// How many things are asked.
 const COUNT: usize = 15;
@@ -113,65 +64,35 @@ const CASES: [Case; COUNT] = [
         table: 1,
         rows: &THREE,
         analysis: Choice::Exact,
-        layer: Layer::None,
-        asked: Asked::Plan {
+        layer: None,
+        asked: Asked::Mapping {
             rule: Rule::Equal,
-            lines: &[
-                PlanLine {
-                    task: 1,
-                    place: 1,
-                    number: 2,
-                    response: 4000,
-                },
-                PlanLine {
-                    task: 2,
-                    place: 1,
-                    number: 3,
-                    response: 2000,
-                },
-                PlanLine {
-                    task: 2,
-                    place: 2,
-                    number: 1,
-                    response: 2000,
-                },
-            ],
+            plan: Some(&[
+                plan_line!(1, 1, 2, 4000),
+                plan_line!(2, 1, 3, 2000),
+                plan_line!(2, 2, 1, 2000),
+            ]),
         },
     },
     Case {
         table: 2,
         rows: &THREE,
         analysis: Choice::Exact,
-        layer: Layer::None,
-        asked: Asked::Plan {
+        layer: None,
+        asked: Asked::Mapping {
             rule: Rule::Divided,
-            lines: &[
-                PlanLine {
-                    task: 1,
-                    place: 1,
-                    number: 3,
-                    response: 4000,
-                },
-                PlanLine {
-                    task: 1,
-                    place: 2,
-                    number: 1,
-                    response: 4000,
-                },
-                PlanLine {
-                    task: 1,
-                    place: 3,
-                    number: 2,
-                    response: 4000,
-                },
-            ],
+            plan: Some(&[
+                plan_line!(1, 1, 3, 4000),
+                plan_line!(1, 2, 1, 4000),
+                plan_line!(1, 3, 2, 4000),
+            ]),
         },
     },
     Case {
         table: 3,
         rows: &FULL,
         analysis: Choice::Exact,
-        layer: Layer::None,
+        layer: None,
         asked: Asked::Verdict {
             marks: &[Mark::Below],
             place: 0,
@@ -182,7 +103,7 @@ const CASES: [Case; COUNT] = [
         table: 4,
         rows: &OVER,
         analysis: Choice::Exact,
-        layer: Layer::None,
+        layer: None,
         asked: Asked::Verdict {
             marks: &[Mark::Below],
             place: 0,
@@ -193,60 +114,37 @@ const CASES: [Case; COUNT] = [
         table: 4,
         rows: &OVER,
         analysis: Choice::Exact,
-        layer: Layer::None,
-        asked: Asked::Unschedulable { rule: Rule::Equal },
+        layer: None,
+        asked: Asked::Mapping {
+            rule: Rule::Equal,
+            plan: None,
+        },
     },
     Case {
         table: 5,
         rows: &TWO,
         analysis: Choice::Exact,
-        layer: Layer::None,
-        asked: Asked::Plan {
+        layer: None,
+        asked: Asked::Mapping {
             rule: Rule::Equal,
-            lines: &[
-                PlanLine {
-                    task: 1,
-                    place: 1,
-                    number: 2,
-                    response: 6,
-                },
-                PlanLine {
-                    task: 2,
-                    place: 1,
-                    number: 1,
-                    response: 3,
-                },
-            ],
+            plan: Some(&[plan_line!(1, 1, 2, 6), plan_line!(2, 1, 1, 3)]),
         },
     },
     Case {
         table: 6,
         rows: &TWO,
         analysis: Choice::Linear,
-        layer: Layer::None,
-        asked: Asked::Plan {
+        layer: None,
+        asked: Asked::Mapping {
             rule: Rule::Equal,
-            lines: &[
-                PlanLine {
-                    task: 1,
-                    place: 1,
-                    number: 1,
-                    response: 6,
-                },
-                PlanLine {
-                    task: 2,
-                    place: 1,
-                    number: 2,
-                    response: 3,
-                },
-            ],
+            plan: Some(&[plan_line!(1, 1, 1, 6), plan_line!(2, 1, 2, 3)]),
         },
     },
     Case {
         table: 7,
         rows: &SHORT,
         analysis: Choice::Sections,
-        layer: Layer::None,
+        layer: None,
         asked: Asked::Verdict {
             marks: &[Mark::Above, Mark::Below],
             place: 0,
@@ -257,7 +155,7 @@ const CASES: [Case; COUNT] = [
         table: 7,
         rows: &LONG,
         analysis: Choice::Sections,
-        layer: Layer::None,
+        layer: None,
         asked: Asked::Verdict {
             marks: &[Mark::Above, Mark::Below],
             place: 0,
@@ -268,7 +166,7 @@ const CASES: [Case; COUNT] = [
         table: 8,
         rows: &TWO,
         analysis: Choice::Exact,
-        layer: Layer::Margin(25),
+        layer: Some(Layer::Margin(25)),
         asked: Asked::Verdict {
             marks: &[Mark::Above, Mark::Below],
             place: 1,
@@ -279,7 +177,7 @@ const CASES: [Case; COUNT] = [
         table: 8,
         rows: &TWO,
         analysis: Choice::Exact,
-        layer: Layer::Margin(26),
+        layer: Some(Layer::Margin(26)),
         asked: Asked::Verdict {
             marks: &[Mark::Above, Mark::Below],
             place: 1,
@@ -290,47 +188,40 @@ const CASES: [Case; COUNT] = [
         table: 9,
         rows: &TWO,
         analysis: Choice::Exact,
-        layer: Layer::Pairs(&[Pair { upper: 2, lower: 1 }]),
-        asked: Asked::Plan {
+        layer: Some(Layer::Pairs(&[Pair { upper: 2, lower: 1 }])),
+        asked: Asked::Mapping {
             rule: Rule::Equal,
-            lines: &[
-                PlanLine {
-                    task: 1,
-                    place: 1,
-                    number: 1,
-                    response: 6,
-                },
-                PlanLine {
-                    task: 2,
-                    place: 1,
-                    number: 2,
-                    response: 3,
-                },
-            ],
+            plan: Some(&[plan_line!(1, 1, 1, 6), plan_line!(2, 1, 2, 3)]),
         },
     },
     Case {
         table: 10,
         rows: &TWO,
         analysis: Choice::Exact,
-        layer: Layer::Pairs(&[Pair { upper: 1, lower: 2 }, Pair { upper: 2, lower: 1 }]),
-        asked: Asked::Unschedulable { rule: Rule::Equal },
+        layer: Some(Layer::Pairs(&[Pair { upper: 1, lower: 2 }, Pair { upper: 2, lower: 1 }])),
+        asked: Asked::Mapping {
+            rule: Rule::Equal,
+            plan: None,
+        },
     },
     Case {
         table: 11,
         rows: &TWO,
         analysis: Choice::Exact,
-        layer: Layer::Charge(1),
-        asked: Asked::Unschedulable { rule: Rule::Equal },
+        layer: Some(Layer::Charge(1)),
+        asked: Asked::Mapping {
+            rule: Rule::Equal,
+            plan: None,
+        },
     },
     Case {
         table: 12,
         rows: &[],
         analysis: Choice::Exact,
-        layer: Layer::None,
-        asked: Asked::Plan {
+        layer: None,
+        asked: Asked::Mapping {
             rule: Rule::Equal,
-            lines: &[],
+            plan: Some(&[]),
         },
     },
 ];

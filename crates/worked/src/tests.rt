@@ -7,13 +7,6 @@ use std::alloc::Global;
 use std::process::Abort;
 use std::test::Fail;
 
-const NO_LINE: PlanLine = PlanLine {
-    task: 0,
-    place: 0,
-    number: 0,
-    response: 0,
-};
-
 /// A new sheet into which the rows are entered in their order.
 fn entered(heap: Global, rows: &[Row]) -> Result<Sheet, Fail> {
     let mut sheet = Sheet::new(heap)?;
@@ -23,40 +16,34 @@ fn entered(heap: Global, rows: &[Row]) -> Result<Sheet, Fail> {
     Ok(sheet)
 }
 
-/// The first lines of the room are these.
-fn begins(rt: &impl Abort, room: &[PlanLine], lines: &[PlanLine]) -> Result<(), Fail> {
-    for (given, line) in room.iter().zip(lines.iter()) {
-        assert_eq!(rt; *given, *line);
-    }
-    Ok(())
-}
-
 /// The calls give what is expected of a case under its pile.
 fn agrees<A: Analysis>(rt: &impl Abort, heap: Global, case: Case, pile: &A) -> Result<(), Fail> {
     let sheet = entered(heap, case.rows)?;
-    let mut room = [NO_LINE; 4];
+    let mut room = [PlanLine::default(); 4];
     match case.asked {
-        Asked::Plan { rule, lines } => {
+        Asked::Mapping {
+            rule,
+            plan: Some(lines),
+        } => {
             let issued = sheet.map(pile, rule, &mut room)?;
             assert_eq!(rt; issued.lines as usize, lines.len());
-            begins(rt, &room, lines)
+            assert!(rt; room.starts_with(lines));
         }
-        Asked::Unschedulable { rule } => {
+        Asked::Mapping { rule, plan: None } => {
             assert_eq!(rt;
                 sheet.map(pile, rule, &mut room),
                 Err(MapFault::Unschedulable)
             );
-            Ok(())
-        },
+        }
         Asked::Verdict {
             marks,
             place,
             verdict,
         } => {
             assert_eq!(rt; pile.ask(case.rows, marks, place), Ok(verdict));
-            Ok(())
-        },
+        }
     }
+    Ok(())
 }
 
 /// A layer of these pairs.
@@ -72,16 +59,16 @@ fn paired(heap: Global, pairs: &[Pair]) -> Result<PairList, Fail> {
 fn tried(rt: &impl Abort, heap: Global, case: Case) -> Result<(), Fail> {
     let below = case.analysis;
     match case.layer {
-        Layer::None => agrees(rt, heap, case, &below),
-        Layer::Charge(s) => {
+        None => agrees(rt, heap, case, &below),
+        Some(Layer::Charge(s)) => {
             let ticks = Ticks::new(s)?;
             agrees(rt, heap, case, &Charge { ticks, below })
         }
-        Layer::Margin(p) => {
+        Some(Layer::Margin(p)) => {
             let percent = Percent::new(p)?;
             agrees(rt, heap, case, &Margin { percent, below })
         }
-        Layer::Pairs(numbers) => {
+        Some(Layer::Pairs(numbers)) => {
             let pairs = paired(heap, numbers)?;
             agrees(rt, heap, case, &Pairs { pairs, below })
         }

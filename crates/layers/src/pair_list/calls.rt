@@ -1,33 +1,24 @@
 //! What can be done with a list of pairs.
 ghost use Rattle.std.specs.Prelude.{◌≡◌, [], IfOk};
-ghost use Rattle.layers.specs.Held.{has_pair};
 ghost use Rattle.layers.specs.Lists.{pairs_of};
 ghost use Rattle.layers.specs.Outcomes.{add_outcome, after_adding, outcome_of};
 
 use crate::fault::LayerFault;
 use crate::pair::Pair;
 use crate::pair_list::PairList;
+use analysis::MOST_NUMBER;
 use ordered::Kept;
 use std::alloc::{AllocError, Global};
 
-/// Whether the pair is one of these.
-fn holds(pairs: &[Pair], pair: Pair) -> bool
-    ensures { result ≡ has_pair pair pairs.now }
-{
-    for held in pairs {
-        if held.upper == pair.upper && held.lower == pair.lower {
-            return true;
-        }
-    }
-    false
-}
+/// The most pairs that are held.
+const MOST_PAIRS: usize = 32;
 
 impl PairList {
     /// No pairs yet. Only this call can want memory: it reserves what 32 pairs take.
     pub fn new(heap: Global) -> Result<PairList, AllocError>
         ensures { IfOk result (λ l. pairs_of l ≡ []) }
     {
-        let pairs = Kept::new(heap, 32)?;
+        let pairs = Kept::new(heap, MOST_PAIRS)?;
         Ok(PairList { pairs })
     }
 
@@ -43,22 +34,19 @@ impl PairList {
         ensures answer { outcome_of result ≡ add_outcome (record { upper = upper; lower = lower }) (pairs_of self.old) }
         ensures pairs { pairs_of self.new ≡ after_adding (record { upper = upper; lower = lower }) (pairs_of self.old) }
     {
-        if upper < 1 || upper > 65_535 {
+        if upper < 1 || upper > MOST_NUMBER {
             return Err(LayerFault::Range { field: 1 });
         }
-        if lower < 1 || lower > 65_535 {
+        if lower < 1 || lower > MOST_NUMBER {
             return Err(LayerFault::Range { field: 2 });
         }
         if upper == lower {
             return Err(LayerFault::Equal);
         }
         let pair = Pair { upper, lower };
-        if holds(self.as_slice(), pair) {
+        if self.as_slice().contains(&pair) {
             return Err(LayerFault::Held);
         }
-        match self.pairs.insert(pair) {
-            Ok(()) => Ok(()),
-            Err(_) => Err(LayerFault::Full),
-        }
+        self.pairs.insert(pair).map_err(|_| LayerFault::Full)
     }
 }

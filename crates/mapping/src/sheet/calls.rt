@@ -1,5 +1,5 @@
 //! Entering and striking rows.
-ghost use Rattle.std.specs.Prelude.{◌≡◌, true, [], is_ok, IfOk, if◌then◌else◌, MatchOption};
+ghost use Rattle.std.specs.Prelude.{◌≡◌, ◌<◌, ◌≤◌, true, [], length, is_ok, IfOk, if◌then◌else◌, MatchOption, nat_eq};
 ghost use Rattle.analysis.specs.Questions.{row_at};
 ghost use Rattle.mapping.specs.Courses.{Continues, Limits, entered, entry, strike, struck, table};
 ghost use Rattle.mapping.specs.Faults.{enter_outcome, outcome_of, strike_outcome};
@@ -7,33 +7,22 @@ ghost use Rattle.mapping.specs.Orders.{Holds, Stands};
 ghost use Rattle.mapping.specs.Rows.{rows_of};
 ghost use Rattle.mapping.specs.Sheets.{place_of};
 ghost use Rattle.ordered.specs.Keys.{ascending};
-ghost use Rattle.std.specs.List.{slice_get};
+ghost use Rattle.std.specs.List.{position, slice_get};
 
 use crate::fault::SheetFault;
 use crate::sheet::Sheet;
-use analysis::{Row, wrong_field};
+use analysis::{MOST_NUMBER, MOST_ROWS, Row, wrong_field};
 use ordered::Kept;
 use std::alloc::{AllocError, Global};
 
-/// The most rows that stand on a sheet.
-const MOST_ROWS: usize = 128;
-
 /// The largest cost of a row on a sheet.
-const MOST_COST: u32 = 1_000_000;
+const MOST_KEPT_COST: u32 = 1_000_000;
 
-/// The largest number of a row.
-const MOST_NUMBER: u32 = 65_535;
-
-/// Where the first row of this number stands; the length where none does.
-fn place_of(rows: &[Row], number: u32) -> usize
-    ensures { result ≡ place_of number rows.now }
+/// Where the first row of this number stands.
+fn position(rows: &[Row], number: u32) -> Option<usize>
+    ensures { result ≡ position (λ s. nat_eq s.number number) rows.now }
 {
-    for (i, row) in rows.iter().enumerate() {
-        if row.number == number {
-            return i;
-        }
-    }
-    rows.len()
+    rows.iter().position(|row| row.number == number)
 }
 
 impl Sheet {
@@ -55,18 +44,20 @@ impl Sheet {
         self.rows.as_slice()
     }
 
+    /// Where the row of this number stands.
+    fn place_of(&self, number: u32) -> Option<usize>
+        ensures { MatchOption result (length (rows_of self.now) ≤ place_of number (rows_of self.now)) (λ p. (p ≡ place_of number (rows_of self.now)) × (p < length (rows_of self.now))) }
+    {
+        position(self.rows.as_slice(), number)
+    }
+
     /// The standing row of this number; none where no row has it.
     pub fn find(&self, number: u32) -> Option<Row>
         ensures value { result ≡ slice_get (rows_of self.now) (place_of number (rows_of self.now)) }
         ensures stands { MatchOption result (Stands (rows_of self.now) number → ⊥) (λ x. Holds (rows_of self.now) x × (x.number ≡ number)) }
     {
-        let rows = self.rows.as_slice();
-        let at = place_of(rows, number);
-        if at < rows.len() {
-            Some(rows[at])
-        } else {
-            None
-        }
+        let at = self.place_of(number)?;
+        Some(self.rows.as_slice()[at])
     }
 
     /// Enters a row; a refusal leaves the rows as they were.
@@ -75,18 +66,13 @@ impl Sheet {
         ensures rows { rows_of self.new ≡ (if is_ok result then entered row (rows_of self.old) else rows_of self.old) }
         ensures continues { Continues (rows_of self.old) (entry row (is_ok result)) (rows_of self.new) }
     {
-        let field = wrong_field(&row, MOST_COST);
-        if field != 0 {
+        if let Some(field) = wrong_field(&row, MOST_KEPT_COST) {
             return Err(SheetFault::Range { field });
         }
-        let rows = self.rows.as_slice();
-        if place_of(rows, row.number) < rows.len() {
+        if self.place_of(row.number).is_some() {
             return Err(SheetFault::Standing);
         }
-        match self.rows.insert(row) {
-            Ok(()) => Ok(()),
-            Err(_) => Err(SheetFault::Full),
-        }
+        self.rows.insert(row).map_err(|_| SheetFault::Full)
     }
 
     /// Takes out the row of this number and hands it back; a refusal leaves the rows as they were.
@@ -99,10 +85,10 @@ impl Sheet {
         if number < 1 || number > MOST_NUMBER {
             return Err(SheetFault::Range { field: 1 });
         }
-        let at = place_of(self.rows.as_slice(), number);
-        match self.rows.remove(at) {
-            Some(row) => Ok(row),
-            None => Err(SheetFault::Missing),
-        }
+        let Some(at) = self.place_of(number) else {
+            return Err(SheetFault::Missing);
+        };
+        // A place past the end would give none; `place_of` gives no such place.
+        self.rows.remove(at).ok_or(SheetFault::Missing)
     }
 }

@@ -1,29 +1,31 @@
 //! The mapping of a sheet's rows to tasks.
 ghost use Rattle.std.specs.Prelude.{◌≡◌, ◌≤◌, ◌++◌, length, take, drop, IfOk};
 ghost use Rattle.mapping.specs.Courses.{Continues, map_answer, mapping};
-ghost use Rattle.mapping.specs.Replies.{Bounded, reply, reply_of, written};
+ghost use Rattle.mapping.specs.Replies.{Bounded, last_task, reply, reply_of, written};
 ghost use Rattle.mapping.specs.Rows.{rows_of};
 
 use crate::fault::MapFault;
 use crate::plan::{Issued, PlanLine, Rule};
 use crate::round::plans::plan_rows;
 use crate::sheet::Sheet;
-use analysis::{Analysis, Mark};
+use analysis::{Analysis, MOST_ROWS, Mark};
 
-/// What stands in the array of lines before it is filled.
-const NO_LINE: PlanLine = PlanLine {
-    task: 0,
-    place: 0,
-    number: 0,
-    response: 0,
-};
-
-/// Writes the first `n` lines to the front of `room`.
-fn copy_lines(lines: &[PlanLine], n: usize, room: &mut [PlanLine])
-    requires { (n ≤ length lines.now) × (n ≤ length room.old) }
-    ensures { room.new ≡ take n lines.now ++ drop n room.old }
+/// The task of the last line, which is the count of the tasks; 0 where there is no line.
+fn last_task(lines: &[PlanLine]) -> u32
+    ensures { result ≡ last_task 0 lines.now }
 {
-    room[0..n].copy_from_slice(&lines[0..n]);
+    match lines.last() {
+        Some(line) => line.task,
+        None => 0,
+    }
+}
+
+/// Writes the lines to the front of `room`.
+fn copy_lines(lines: &[PlanLine], room: &mut [PlanLine])
+    requires { length lines.now ≤ length room.old }
+    ensures { room.new ≡ lines.now ++ drop (length lines.now) room.old }
+{
+    room[..lines.len()].copy_from_slice(lines);
 }
 
 impl Sheet {
@@ -44,14 +46,16 @@ impl Sheet {
         if room.len() < rows.len() {
             return Err(MapFault::Room);
         }
-        let mut lines = [NO_LINE; 128];
-        let mut marks = [Mark::Above; 128];
-        match plan_rows(analysis, rule, rows, &mut lines, &mut marks[0..rows.len()]) {
-            None => Err(MapFault::Unschedulable),
-            Some(issued) => {
-                copy_lines(&lines, issued.lines as usize, room);
-                Ok(issued)
-            }
-        }
+        // An array, since a mapping takes no memory.
+        let mut marks = [Mark::Above; MOST_ROWS];
+        let Some(lines) = plan_rows(analysis, rule, rows, &mut marks[..rows.len()]) else {
+            return Err(MapFault::Unschedulable);
+        };
+        let plan = lines.as_slice();
+        copy_lines(plan, room);
+        Ok(Issued {
+            tasks: last_task(plan),
+            lines: plan.len() as u32,
+        })
     }
 }

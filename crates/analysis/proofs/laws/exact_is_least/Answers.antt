@@ -1,4 +1,4 @@
-use Rattle.analysis.specs.Eased.{linear_safe, sections_safe}
+use Rattle.analysis.specs.Lemmas.Eased.{linear_safe, sections_safe}
 use Rattle.analysis.proofs.laws.exact_is_least.Goals as goal
 
 pub returns : goal.returns

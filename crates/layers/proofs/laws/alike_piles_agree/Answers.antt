@@ -1,4 +1,5 @@
-use Rattle.layers.proofs.Piled.{alike_agree, piles_lawful}
+use Rattle.layers.specs.Lemmas.Lawful.{piles_lawful}
+use Rattle.layers.proofs.Piled.{alike_agree}
 use Rattle.layers.proofs.laws.alike_piles_agree.Goals as goal
 
 pub returns : goal.returns

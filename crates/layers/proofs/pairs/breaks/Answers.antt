@@ -3,7 +3,7 @@ use Rattle.std.proofs.lemmas.Bool.{and_from, and_left, and_right, eq-eqb, ne_eqb
 use Rattle.layers.specs.Layers.{above_has, pair_broken}
 use Rattle.analysis.specs.Questions.{row_at}
 use Rattle.analysis.specs.declared.row.Mark.TheVariants.{Below}
-use Rattle.layers.specs.Paired.{broken_end, broken_step, no_pair}
+use Rattle.layers.proofs.Looking.{broken_end, broken_step, no_pair}
 use Rattle.layers.proofs.pairs.breaks.Goals as goal
 use Rattle.layers.proofs.pairs.breaks.Goals.{else-pair-table-via-then-pair-table+else-stands_above, else-pair-table-via-else-pair-table}
 

@@ -1,34 +1,12 @@
-use Rattle.std.proofs.Common.{[], ◌∷◌, sym, refl, subst}
-use Rattle.reading.specs.Says.{row, strike, pair, charge, margin, at, row_at, LineAs}
-use Rattle.reading.specs.declared.words.Word.TheVariants.{Row, Strike, Pair, Charge, Margin}
-use Rattle.reading.specs.declared.line.Line.TheVariants as v
-use Rattle.reading.proofs.Checks.{line_read}
+use Rattle.std.proofs.Common.{◌≡◌, arith, map, length}
+use lib.ListN.{length-map}
+use Rattle.std.proofs.lemmas.Bool.Decides.{nat_tests}
+use Rattle.reading.specs.Reading.{text}
 use Rattle.reading.proofs.line.kind_of.Goals as goal
+use Rattle.reading.proofs.line.kind_of.Goals.{in_default-via-in-Row+then-as_slice-lt5, in_default-via-in-Row+else-as_slice-lt5+else-this-lt6, in_default-via-in-Strike+then-this-lt1, in_default-via-in-Strike+else-this-lt1+else-this-lt2, in_default-via-in-Pair+then-this-lt2-2, in_default-via-in-Pair+else-this-lt2-2+else-this-lt3, in_default-via-in-Charge+then-this-lt1-2, in_default-via-in-Charge+else-this-lt1-2+else-this-lt2-3, in_default-via-in-Margin+then-this-lt1-3, in_default-via-in-Margin+else-this-lt1-3+else-this-lt2-4, in_default-via-in-Map+then-this-lt2-5, in_default-via-in-Map+else-this-lt2-5+else-this-lt3-2}
 
-pub returns-in_ok-number-in-Row : goal.returns-in_ok-number-in-Row
-returns-in_ok-number-in-Row c =
-    let told = c.in_ok-number-in-Row.ensures in
-    line_read _ Row c.args.rest c.in-Row.is (v.Row c.in_ok-number-in-Row.number c.in_ok-number-in-Row.cost c.in_ok-number-in-Row.period c.in_ok-number-in-Row.deadline c.in_ok-number-in-Row.section) (λ fs. row (row_at fs)) (c.in_ok-number-in-Row.number ∷ c.in_ok-number-in-Row.cost ∷ c.in_ok-number-in-Row.period ∷ c.in_ok-number-in-Row.deadline ∷ c.in_ok-number-in-Row.section ∷ []) (told.0 _) told.1 refl told.1
-
-pub returns-in_ok-number-in-Strike : goal.returns-in_ok-number-in-Strike
-returns-in_ok-number-in-Strike c =
-    let told = c.in_ok-number-in-Strike.ensures in
-    line_read _ Strike c.args.rest c.in-Strike.is (v.Strike c.in_ok-number-in-Strike.number) (λ fs. strike (at fs 0)) (c.in_ok-number-in-Strike.number ∷ []) (told.0 _) told.1 refl told.1
-
-pub returns-in_ok-u-in-Pair : goal.returns-in_ok-u-in-Pair
-returns-in_ok-u-in-Pair c =
-    let told = c.in_ok-u-in-Pair.ensures in
-    line_read _ Pair c.args.rest c.in-Pair.is (v.Pair c.in_ok-u-in-Pair.u c.in_ok-u-in-Pair.l) (λ fs. pair (at fs 0) (at fs 1)) (c.in_ok-u-in-Pair.u ∷ c.in_ok-u-in-Pair.l ∷ []) (told.0 _) told.1 refl told.1
-
-pub returns-in_ok-s-in-Charge : goal.returns-in_ok-s-in-Charge
-returns-in_ok-s-in-Charge c =
-    let told = c.in_ok-s-in-Charge.ensures in
-    line_read _ Charge c.args.rest c.in-Charge.is (v.Charge c.in_ok-s-in-Charge.s) (λ fs. charge (at fs 0)) (c.in_ok-s-in-Charge.s ∷ []) (told.0 _) told.1 refl told.1
-
-pub returns-in_ok-p-in-Margin : goal.returns-in_ok-p-in-Margin
-returns-in_ok-p-in-Margin c =
-    let told = c.in_ok-p-in-Margin.ensures in
-    line_read _ Margin c.args.rest c.in-Margin.is (v.Margin c.in_ok-p-in-Margin.p) (λ fs. margin (at fs 0)) (c.in_ok-p-in-Margin.p ∷ []) (told.0 _) told.1 refl told.1
-
-pub returns-in-Map : goal.returns-in-Map
-returns-in-Map c = subst (λ v. LineAs v c.args.rest c.map_of.result) (sym c.in-Map.is) c.map_of.ensures
+pub returns-in_default : goal.returns-in_default
+returns-in_default c =
+    let fs = c.args.fields.now.items in
+    let e : length (map text fs) ≡ length fs = length-map fs text in
+    (let s = c.as_slice.ensures.value in elim c.in_default.branch [ in_default-via-in-Row+then-as_slice-lt5 w ↦ grind (arith, nat_tests, e) | in_default-via-in-Row+else-as_slice-lt5+else-this-lt6 w ↦ grind (arith, nat_tests, e) | in_default-via-in-Strike+then-this-lt1 w ↦ grind (arith, nat_tests, e) | in_default-via-in-Strike+else-this-lt1+else-this-lt2 w ↦ grind (arith, nat_tests, e) | in_default-via-in-Pair+then-this-lt2-2 w ↦ grind (arith, nat_tests, e) | in_default-via-in-Pair+else-this-lt2-2+else-this-lt3 w ↦ grind (arith, nat_tests, e) | in_default-via-in-Charge+then-this-lt1-2 w ↦ grind (arith, nat_tests, e) | in_default-via-in-Charge+else-this-lt1-2+else-this-lt2-3 w ↦ grind (arith, nat_tests, e) | in_default-via-in-Margin+then-this-lt1-3 w ↦ grind (arith, nat_tests, e) | in_default-via-in-Margin+else-this-lt1-3+else-this-lt2-4 w ↦ grind (arith, nat_tests, e) | in_default-via-in-Map+then-this-lt2-5 w ↦ grind (arith, nat_tests, e) | in_default-via-in-Map+else-this-lt2-5+else-this-lt3-2 w ↦ grind (arith, nat_tests, e) ], tt)

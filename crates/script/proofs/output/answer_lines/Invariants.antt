@@ -5,11 +5,12 @@ use Rattle.script.specs.Sessions.{answers_after, answers_from, start}
 use Rattle.script.proofs.output.answer_lines.Given as goal
 
 -- what was written, and then the answers that are to come, are all answers
-abbrev pub invariant-loop-out : goal.invariant-loop-out
-invariant-loop-out l =
-    (length l.room ≡ 4096)
-    × ((script_of l.session ≡ script_of l.initial.session)
-    × (vec_items l.out ++ answers_after (script_of l.session) (taken_of l.session) ≡ answers_from start 1 (lines_of (script_of l.initial.session))))
+abbrev pub invariant-loop-answered : goal.invariant-loop-answered
+invariant-loop-answered l = record {
+  roomy : length l.room ≡ 4096;
+  same : script_of l.session ≡ script_of l.fn.session;
+  all : vec_items l.out ++ answers_after (script_of l.session) (taken_of l.session) ≡ answers_from start 1 (lines_of (script_of l.fn.session));
+}
 
-abbrev pub decreases-loop-out : goal.decreases-loop-out
-decreases-loop-out l = length (lines_of (script_of l.session)) - taken_of l.session
+abbrev pub decreases-loop-answered : goal.decreases-loop-answered
+decreases-loop-answered l = length (lines_of (script_of l.session)) - taken_of l.session

@@ -1,8 +1,8 @@
 -- The cost of the members whose period divides the time of the activation.
-use Rattle.std.proofs.Common.{◌≡◌, ℕ, ◌*◌, take, Ok, ap, ◌∙◌, arith}
+use Rattle.std.proofs.Common.{◌≡◌, ℕ, ◌*◌, Ok, ap, ◌∙◌, arith}
 use Rattle.mapping.specs.Rows.{rows_of}
 use Rattle.tasks.specs.Answers.{found, refused}
-use Rattle.tasks.specs.Totals.{answered, cost_at, load_answer, load_of, shortest_period}
+use Rattle.tasks.specs.Totals.{answered, cost_at, load_answer, load_of}
 use Rattle.tasks.proofs.Answering.{load_equal, load_first, load_passes, load_runs, load_too_long}
 use Rattle.tasks.proofs.questions.load.Goals as goal
 
@@ -21,13 +21,10 @@ returns c =
     let k = c.args.task in
     let ls = c.args.lines.now in
     let n = c.args.activation in
-    let m = c.in_ok-members.members in
-    let ms = take m.count m.rows in
-    let x = c.cost_of.result in
-    let y = c.totals_of-shortest.result.0 in
-    let b : y ≡ shortest_period ms = ap (λ (z : ℕ × ℕ × ℕ). z.0) c.totals_of-shortest.ensures.value ∙ ap shortest_period c.as_slice.ensures in
-    let is : x ≡ load_of n ms = c.cost_of.ensures ∙ ap (cost_at (n * y)) c.as_slice-2.ensures ∙ ap (λ (p : ℕ). cost_at (n * p) ms) b in
+    let ms = c.in_ok-members.members.rows.items in
+    let x = c.cost_at.result in
+    let is : x ≡ load_of n ms = c.cost_at.ensures ∙ ap (λ (p : ℕ). cost_at (n * p) ms) c.shortest_period-shortest.ensures.value in
     let answer : found x ≡ load_answer t k ls n =
-    ap (λ (z : ℕ). found z) is ∙ ap (answered (load_of n)) c.in_ok-members.ensures.answer ∙
+    ap (λ (z : ℕ). found z) is ∙ ap (answered (load_of n)) c.in_ok-members.ensures ∙
     load_passes t k ls n (omega arith) (omega arith) in
     record { answer = answer; running = load_runs t k ls n (Ok x) answer; first = λ e. answer ∙ load_first t k ls n e; equal = λ v plan h. answer ∙ load_equal t k ls n v plan h }

@@ -1,5 +1,5 @@
 -- The totals of the members.
-use Rattle.std.proofs.Common.{◌≡◌, ℕ, take, Ok, ap, ◌∙◌}
+use Rattle.std.proofs.Common.{◌≡◌, ℕ, Ok, ap, ◌∙◌}
 use Rattle.mapping.specs.Rows.{rows_of}
 use Rattle.mapping.proofs.Entries.{sheet_limits}
 use Rattle.tasks.specs.Answers.{found}
@@ -12,12 +12,14 @@ returns c =
     let t = rows_of c.args.sheet.now in
     let k = c.args.task in
     let ls = c.args.lines.now in
-    let m = c.in_ok-members.members in
-    let ms = take m.count m.rows in
-    let x = c.totals_of.result in
-    let is : x ≡ totals_of ms = c.totals_of.ensures.value ∙ ap totals_of c.as_slice.ensures in
+    let ms = c.in_ok-members.members.rows.items in
+    let x : ℕ × ℕ × ℕ = (c.shortest_period.result, c.shortest_deadline.result, c.summed_cost.result) in
+    let p = c.shortest_period.ensures.value in
+    let d = c.shortest_deadline.ensures in
+    let s = c.summed_cost.ensures in
+    let is : x ≡ totals_of ms = cc in
     let answer : found x ≡ totals_answer t k ls =
-    ap (λ (y : ℕ × ℕ × ℕ). found y) is ∙ ap (answered totals_of) c.in_ok-members.ensures.answer in
+    ap (λ (y : ℕ × ℕ × ℕ). found y) is ∙ ap (answered totals_of) c.in_ok-members.ensures in
     record {
       answer = answer;
       shortest = totals_shortest t k ls (Ok x) answer;

@@ -1,5 +1,5 @@
-use Rattle.std.proofs.Common.{◌≡◌, ◌-◌, length, take, ap, ◌∙◌, arith}
-use Rattle.layers.specs.Layered.{charged_answer, uncharged_answer}
+use Rattle.std.proofs.Common.{◌≡◌, ◌∙◌, arith}
+use Rattle.layers.specs.Lemmas.Layered.{charged_answer, uncharged_answer}
 use Rattle.layers.proofs.charge.ChargeAnalysis.ask.Goals as goal
 
 pub returns-then-value-eq0 : goal.returns-then-value-eq0
@@ -10,6 +10,5 @@ returns-then-value-eq0 g c =
 
 pub returns : goal.returns
 returns g c =
-    let n : length c.args.table.now - 0 ≡ length c.args.table.now = omega arith in
     charged_answer c.args.self.now.ticks.value (g.A.Analysis.verdict c.args.self.now.below) c.args.table.now _ c.args.marks.now c.args.place _
-    c.in_ok-check_question.ensures.fair (ap (λ k. take k c.raise_all-rows.result) n ∙ c.raise_all-rows.ensures) c.ask-2.ensures
+    c.in_ok-check_question.ensures.fair (c.as_slice.ensures.value ∙ c.raise_all-rows.ensures) c.ask-2.ensures

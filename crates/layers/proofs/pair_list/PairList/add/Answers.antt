@@ -12,12 +12,11 @@ invariant_of-self c =
     let p : Pair = record { upper = c.args.upper; lower = c.args.lower } in
     let ps = pairs_of c.args.self.now in
     let free = ltb (length ps) c.args.self.now.pairs.most in
-    let new : has_pair p ps ≡ false = ap (λ (l : List Pair). has_pair p l) (sym c.as_slice.ensures) ∙ sym c.if-holds.ensures in
+    let new : has_pair p ps ≡ false = ap (λ (l : List Pair). has_pair p l) (sym c.as_slice.ensures) ∙ sym c.if-contains.ensures.value in
     record {
       roomy = c.insert.ensures.most ∙ c.args.self.now.roomy;
       ranges =
           every_kept pair_in_range (λ q. q.upper) free p ps _ c.insert.ensures.items
           (fine_pair c.args.upper c.args.lower (omega arith) (omega arith) (omega arith) (omega arith) c.if-upper-lower.false) c.args.self.now.ranges;
       apart = apart_kept same_pair same_turns (λ q. q.upper) free p ps _ c.insert.ensures.items new c.args.self.now.apart;
-      ordered = c.insert.ensures.ordered c.args.self.now.ordered;
     }

@@ -10,7 +10,7 @@ use Rattle.layers.specs.Layers.{pair_broken, with_pairs}
 use Rattle.layers.specs.Lists.{pairs_of}
 use Rattle.layers.specs.declared.pair.Pair.{Pair}
 use Rattle.layers.proofs.Breaking.{breaks_broken, broken_breaks}
-use Rattle.layers.specs.Layered.{same_answer}
+use Rattle.layers.specs.Lemmas.Layered.{same_answer}
 use Rattle.layers.proofs.pairs.PairsAnalysis.ask.Goals as goal
 
 pub returns-then-breaks : goal.returns-then-breaks

@@ -1,15 +1,16 @@
-use Rattle.std.proofs.Common.{◌≡◌, ◌+◌, ◌-◌, ◌≤◌, length, take}
+use Rattle.std.proofs.Common.{◌≡◌, ◌+◌, ◌-◌, ◌≤◌, length}
 use Rattle.mapping.specs.Plans.{plan, plan_from, unplaced}
-use Rattle.mapping.specs.Replies.{last_task}
-use Rattle.mapping.specs.Rounds.{ahead}
+use Rattle.mapping.specs.Rounds.{Asked}
+use Rattle.mapping.proofs.Planning.{ahead}
 use Rattle.mapping.proofs.round.plans.plan_rows.Given as goal
 
-abbrev pub invariant-loop-filled : goal.invariant-loop-filled
-invariant-loop-filled g l =
-    (1 ≤ l.task) × (l.task ≤ l.filled + 1) × (l.filled + unplaced l.marks ≡ length l.rows) ×
-    (ahead (take l.filled l.lines) (plan_from (length l.rows + 1 - l.task) (g.A.Analysis.verdict l.analysis) l.rule l.rows l.task l.marks) ≡
-    plan (g.A.Analysis.verdict l.analysis) l.rule l.rows) ×
-    (last_task 0 (take l.filled l.lines) + 1 ≡ l.task)
+-- the lines that stand, ahead of the plan of the rows that are left, are the plan
+abbrev pub invariant-loop-rule : goal.invariant-loop-rule
+invariant-loop-rule g l =
+    let v = g.A.Analysis.verdict l.analysis in
+    let filled = length l.lines.items in
+    Asked l.rows l.marks × (1 ≤ l.task) × (l.task ≤ filled + 1) × (filled + unplaced l.marks ≡ length l.rows) ×
+    (ahead l.lines.items (plan_from (length l.rows + 1 - l.task) v l.rule l.rows l.task l.marks) ≡ plan v l.rule l.rows)
 
-abbrev pub decreases-loop-filled : goal.decreases-loop-filled
-decreases-loop-filled g l = length l.rows - l.filled
+abbrev pub decreases-loop-rule : goal.decreases-loop-rule
+decreases-loop-rule g l = length l.rows - length l.lines.items

@@ -11,7 +11,6 @@ returns-then-at-len g c =
       value = sym (slice_get_past (vec_items c.args.self.now.items) c.args.at h);
       items = sym (removed_past (vec_items c.args.self.now.items) c.args.at h);
       most = refl;
-      ordered = λ a. a;
     }
 
 pub returns : goal.returns
@@ -22,5 +21,8 @@ returns g c =
           c.args.self.now.items.ok.0 (omega (arith, c.len.ensures)) c.remove.ensures.value);
       items = c.remove.ensures.items;
       most = refl;
-      ordered = λ a. rw c.remove.ensures.items (ascending_removed g.T.Keyed.key (vec_items c.args.self.now.items) c.args.at a);
     }
+
+pub invariant_of-self-clause-ordered : goal.invariant_of-self-clause-ordered
+invariant_of-self-clause-ordered g c =
+    rw c.remove.ensures.items (ascending_removed g.T.Keyed.key (vec_items c.args.self.now.items) c.args.at c.args.self.now.ordered)

@@ -1,14 +1,13 @@
 -- One line is taken: the state and the answer after it are those that are defined for the script.
-use Rattle.std.proofs.Common.{◌≡◌, ℕ, ◌+◌, List, ◌∷◌, ◌++◌, length, drop, sym, refl, ap, ◌∙◌, subst, arith}
+use Rattle.std.proofs.Common.{◌≡◌, ℕ, ◌+◌, List, ◌∷◌, ◌++◌, length, drop, sym, refl, ap, ◌∙◌, subst, arith, rules}
 use Rattle.std.proofs.lemmas.Bool.{lt-ltb}
 use Rattle.reading.specs.Lines.{lines_of}
 use Rattle.reading.specs.Reading.{left, next_spot}
 use Rattle.reading.specs.Says.{Read, outcome, reading_of}
-use Rattle.script.specs.Sessions.{after_read, answer_text, reply_read, state_after}
+use Rattle.script.specs.Sessions.{State, after_read, answer_text, reply_read, state_after}
 use Rattle.script.specs.Turns.{Told, answered, told_of}
 use Rattle.script.specs.Works.{Matches, Replies}
 use Rattle.script.proofs.Coursing.{script_law}
-use Rattle.script.proofs.Keeping.{kept_from, matches_from}
 use Rattle.script.proofs.Taking.{end_room, end_taken, end_turn, next_rest, next_room, next_state, next_taken, next_turn, replied_fitting, replied_text, replied_told}
 use Rattle.script.proofs.session.Session.answer.Goals as goal
 
@@ -47,22 +46,22 @@ invariant_of-self-2 c =
     let h = c.in-Some.ensures in
     let y = (next_spot s.reader).text in
     let e : drop k (lines_of script) ≡ y ∷ lines_of (left c.read.new.self) = s.rest ∙ h.line in
-    let m = matches_from s.work (state_after script k) s.rows s.pairs s.charge s.margin in
+    let m : Matches s.work (state_after script k) = record { rows = s.rows; pairs = s.pairs; charge = s.charge; margin = s.margin } in
     let n = subst (λ (x : Read). Matches c.take-outcome.new.self (after_read (state_after script k) x)) h.value (c.take-outcome.ensures.after (state_after script k) m) in
     let same = h.moved.script in
     let len = ap length same in
-    let kept =
-    kept_from c.take-outcome.new.self (after_read (state_after script k) (reading_of y)) (state_after c.read.new.self.script.now (k + 1))
-    (sym (next_state script k y (lines_of (left c.read.new.self)) e) ∙ ap (λ (z : List ℕ). state_after z (k + 1)) (sym same)) n in
+    let same_state : after_read (state_after script k) (reading_of y) ≡ state_after c.read.new.self.script.now (k + 1) =
+    sym (next_state script k y (lines_of (left c.read.new.self)) e) ∙ ap (λ (z : List ℕ). state_after z (k + 1)) (sym same) in
+    let kept = subst (λ (z : State). Matches c.take-outcome.new.self z) same_state n in
     record {
       short = omega (arith, s.short);
       counted = omega (arith, s.counted, h.moved.further);
       within = omega (arith, h.moved.within);
       rest = ap (λ (z : List ℕ). drop (k + 1) (lines_of z)) same ∙ next_rest script k y (lines_of (left c.read.new.self)) e;
-      rows = kept.0;
-      pairs = kept.1.0;
-      charge = kept.1.1.0;
-      margin = kept.1.1.1.0;
+      rows = kept.rows;
+      pairs = kept.pairs;
+      charge = kept.charge;
+      margin = kept.margin;
     }
 
 pub write_outcome-bytes-requires : goal.write_outcome-bytes-requires
@@ -71,8 +70,8 @@ write_outcome-bytes-requires c =
     let script = s.reader.script.now in
     let k = s.taken in
     let h = c.in-Some.ensures in
-    let m = matches_from s.work (state_after script k) s.rows s.pairs s.charge s.margin in
-    let n : length c.take-outcome.new.lines ≡ 128 = omega (arith, c.take-outcome.auto.lines) in
+    let m : Matches s.work (state_after script k) = record { rows = s.rows; pairs = s.pairs; charge = s.charge; margin = s.margin } in
+    let n : length c.take-outcome.new.lines ≡ 128 = search rules in
     record {
       roomy = c.if-room-lt-LEAST_ROOM.false;
       early = omega (arith, s.short, s.counted, h.moved.further, h.moved.within);
@@ -91,7 +90,7 @@ returns c =
     let y = (next_spot s.reader).text in
     let ys = lines_of (left c.read.new.self) in
     let e : drop k (lines_of script) ≡ y ∷ ys = s.rest ∙ h.line in
-    let m = matches_from s.work (state_after script k) s.rows s.pairs s.charge s.margin in
+    let m : Matches s.work (state_after script k) = record { rows = s.rows; pairs = s.pairs; charge = s.charge; margin = s.margin } in
     let p = reply_read (state_after script k) (reading_of y) in
     let r : Replies p c.take-outcome.result c.take-outcome.new.lines =
     subst (λ (x : Read). Replies (reply_read (state_after script k) x) c.take-outcome.result c.take-outcome.new.lines) h.value

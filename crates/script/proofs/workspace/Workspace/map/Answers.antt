@@ -1,5 +1,5 @@
 -- The mapping is the one that the line asks for, under the pile with the named analysis.
-use Rattle.std.proofs.Common.{Ok, Err, refl}
+use Rattle.std.proofs.Common.{Ok, Err, refl, rules}
 use Rattle.std.proofs.lemmas.Result.{err_from_is_err_and}
 use Rattle.script.proofs.Obeying.{map_obeys}
 use Rattle.script.proofs.workspace.Workspace.map.Goals as goal
@@ -10,10 +10,10 @@ returns-in_err-issued c =
     let h = c.in_err-issued.ensures in
     rw (p.1, p.2)
     (map_obeys c.args.self.now _ c.args.choice c.args.rule (Err c.in_err-issued.field-0.0) c.args.lines.now c.map.new.room
-    c.requires h.answer h.room h.bounds refl refl refl refl)
+    (search rules) h.answer h.room h.bounds refl refl refl refl)
 
 pub returns : goal.returns
 returns c =
     let h = c.in_ok-issued.ensures in
     map_obeys c.args.self.now _ c.args.choice c.args.rule (Ok c.in_ok-issued.issued) c.args.lines.now c.map.new.room
-    c.requires h.answer h.room h.bounds refl refl refl refl
+    (search rules) h.answer h.room h.bounds refl refl refl refl

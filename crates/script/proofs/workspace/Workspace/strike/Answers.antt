@@ -13,11 +13,11 @@ returns-in_err-strike c =
     let p = err_from_is_err_and c.from_residual.result c.from_residual.ensures.1 in
     let h = c.in_err-strike.ensures in
     rw (p.1, p.2)
-    (sheet_obeys {X = Row} c.args.self.now _ (says.strike c.args.number) (strike_outcome c.args.number) (call.strike c.args.number) (Err c.in_err-strike.field-0.0) c.args.lines.now
+    (λ ls. sheet_obeys {X = Row} c.args.self.now _ (says.strike c.args.number) (strike_outcome c.args.number) (call.strike c.args.number) (Err c.in_err-strike.field-0.0) ls
     (λ s. refl) (λ s. refl) h.answer h.rows refl)
 
 pub returns : goal.returns
 returns c =
     let h = c.in_ok-strike.ensures in
-    sheet_obeys c.args.self.now _ (says.strike c.args.number) (strike_outcome c.args.number) (call.strike c.args.number) (Ok c.in_ok-strike.field-0) c.args.lines.now
+    λ ls. sheet_obeys c.args.self.now _ (says.strike c.args.number) (strike_outcome c.args.number) (call.strike c.args.number) (Ok c.in_ok-strike.field-0) ls
     (λ s. refl) (λ s. refl) h.answer h.rows refl

@@ -1,0 +1,14 @@
+use Rattle.std.proofs.Common.{◌≡◌, length, min, rules}
+use Rattle.std.proofs.lemmas.Slice.Zip.{zip_end}
+use Rattle.layers.proofs.Looking.{above_end}
+use Rattle.layers.proofs.pairs.above_has.Goals as goal
+
+pub returns : goal.returns
+returns c =
+    let t = c.args.rows.now in
+    let m = c.args.marks.now in
+    let n : length c.loop-row.yielded ≡ min (length t) (length m) =
+    zip_end t m c.loop-row.yielded c.into_iter-row-iterator.result c.loop-row.row-iterator c.next.new.self c.next.result (search rules) (search rules)
+    c.loop-row.yielded_by c.in-None.is c.next.ensures.steps in
+    let e = above_end c.args.number t m (length c.loop-row.yielded) n in
+    search rules
