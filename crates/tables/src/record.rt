@@ -11,7 +11,8 @@ use std::alloc::Global;
 pub(crate) enum Layer {
     Charge(Ticks),
     Margin(Percent),
-    Pairs(PairList),
+    /// None where a pair is refused.
+    Pairs(Option<PairList>),
 }
 
 /// What a line says.
@@ -79,15 +80,15 @@ fn numbers_of(heap: Global, fields: &str) -> anyhow::Result<Vec<u32>> {
     Ok(numbers)
 }
 
-/// The pairs that numbers in a row stand for.
-fn pairs_of(heap: Global, numbers: &[u32]) -> anyhow::Result<PairList> {
+/// The pairs that numbers in a row stand for; none where one is refused.
+fn pairs_of(heap: Global, numbers: &[u32]) -> anyhow::Result<Option<PairList>> {
     let mut pairs = PairList::new(heap)?;
     for two in numbers.chunks_exact(2) {
-        pairs
-            .add(two[0], two[1])
-            .map_err(|_| anyhow!("a pair is refused"))?;
+        if pairs.add(two[0], two[1]).is_err() {
+            return Ok(None);
+        }
     }
-    Ok(pairs)
+    Ok(Some(pairs))
 }
 
 /// A layer that raises every cost.

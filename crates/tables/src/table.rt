@@ -9,6 +9,16 @@ use std::alloc::Global;
 use std::mem;
 use tasks::TaskFault;
 
+/// How many layers a table may have.
+const MOST_LAYERS: u32 = 3;
+
+/// Why a table's pile cannot be asked; said at the first question.
+#[derive(Clone, Copy)]
+enum PileFault {
+    Pair,
+    Layers,
+}
+
 /// A table with its sheet and its pile of layers, and the plan lines of which questions about tasks are asked.
 #[derive(Drop)]
 pub(crate) struct Table {
@@ -16,7 +26,9 @@ pub(crate) struct Table {
     before: u64,
     rows: Vec<Row>,
     sheet: Sheet,
-    pile: Pile,
+    pile: Result<Pile, PileFault>,
+    /// How many layers were put above the analysis, up to the most there may be.
+    layers: u32,
     lines: Vec<PlanLine>,
 }
 
@@ -57,7 +69,8 @@ impl Table {
             before,
             rows: Vec::new(heap),
             sheet: Sheet::new(heap)?,
-            pile: Pile::Named(analysis),
+            pile: Ok(Pile::Named(analysis)),
+            layers: 0,
             lines: Vec::new(heap),
         })
     }
@@ -114,21 +127,41 @@ impl Table {
         }
     }
 
-    /// Puts a layer above the pile.
+    /// Puts a layer above the pile; one that cannot stand there leaves its reason.
     fn put_above(&mut self, heap: Global, layer: Layer) -> anyhow::Result<()> {
-        let below = mem::replace(&mut self.pile, Pile::Named(Choice::Exact));
+        let below = match mem::replace(&mut self.pile, Err(PileFault::Layers)) {
+            Ok(below) => below,
+            Err(fault) => {
+                self.pile = Err(fault);
+                return Ok(());
+            }
+        };
+        if self.layers >= MOST_LAYERS {
+            return Ok(());
+        }
+        self.layers += 1;
         self.pile = match layer {
-            Layer::Charge(ticks) => Pile::Charge(Box::new(heap, Charge { ticks, below })?),
-            Layer::Margin(percent) => Pile::Margin(Box::new(heap, Margin { percent, below })?),
-            Layer::Pairs(pairs) => Pile::Pairs(Box::new(heap, Pairs { pairs, below })?),
+            Layer::Charge(ticks) => Ok(Pile::Charge(Box::new(heap, Charge { ticks, below })?)),
+            Layer::Margin(percent) => Ok(Pile::Margin(Box::new(heap, Margin { percent, below })?)),
+            Layer::Pairs(Some(pairs)) => Ok(Pile::Pairs(Box::new(heap, Pairs { pairs, below })?)),
+            Layer::Pairs(None) => Err(PileFault::Pair),
         };
         Ok(())
+    }
+
+    /// The pile, where it can be asked.
+    fn pile(&self) -> anyhow::Result<&Pile> {
+        match &self.pile {
+            Ok(pile) => Ok(pile),
+            Err(PileFault::Pair) => Err(anyhow!("a pair is refused")),
+            Err(PileFault::Layers) => Err(anyhow!("more than three layers")),
+        }
     }
 
     fn map(&mut self, rt: &HostRuntime, rule: Rule) -> anyhow::Result<()> {
         // The room of a mapping is the caller's: as many lines as rows may stand.
         let mut room = [PlanLine::default(); MOST_ROWS];
-        match self.sheet.map(&self.pile, rule, &mut room) {
+        match self.sheet.map(self.pile()?, rule, &mut room) {
             Ok(issued) => self.write_plan(rt, issued, &room),
             Err(fault) => write_refusal(rt, fault),
         }
@@ -153,7 +186,7 @@ impl Table {
     }
 
     fn ask(&self, rt: &HostRuntime, marks: &[Mark], place: usize) -> anyhow::Result<()> {
-        match self.pile.ask(self.rows.as_slice(), marks, place) {
+        match self.pile()?.ask(self.rows.as_slice(), marks, place) {
             Ok(Verdict::OnTime(response)) => println!(rt; "ontime,{response}")?,
             Ok(Verdict::Late) => println!(rt; "late")?,
             Err(fault) => write_refusal(rt, fault)?,
