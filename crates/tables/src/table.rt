@@ -27,7 +27,7 @@ pub(crate) struct Table {
     rows: Vec<Row>,
     sheet: Sheet,
     pile: Result<Pile, PileFault>,
-    /// How many layers were put above the analysis, up to the most there may be.
+    /// How many layers were put above the analysis, up to the most there may be; a pile has no length to ask for.
     layers: u32,
     lines: Vec<PlanLine>,
 }
