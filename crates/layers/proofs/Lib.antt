@@ -1,4 +1,4 @@
-mod Looking
+pub mod Looking
 pub mod Breaking
 pub mod Listing
 pub mod Piled

@@ -2,6 +2,7 @@
 use Rattle.std.proofs.Common.{◌≡◌, ℕ, zero, suc, ◌+◌, ◌<◌, ◌≤◌, min, false, ◌&&◌, ◌||◌, eqb, List, [], ◌∷◌, length, get_or, take, drop, set, refl, sym, ap, ◌∙◌, arith}
 use Rattle.std.proofs.lemmas.List.{drop_all, drop_more}
 use Rattle.std.proofs.Math.Bool.{or_assoc}
+use Rattle.std.specs.Prelude.{◌==◌}
 use Rattle.analysis.proofs.Parts.{behind, behind_is}
 use Rattle.analysis.specs.declared.row.Mark.{Mark}
 use Rattle.analysis.specs.declared.row.Mark.TheVariants.{Above, Below}
@@ -41,7 +42,7 @@ no_pair = record { upper = 0; lower = 0 }
 -- one pair more
 pub broken_step : (ps : List Pair) (n : ℕ) (t : List Row) (m : List Mark) (i : ℕ) → i < length ps →
     pair_broken (drop i ps) n t m
-    ≡ ((eqb (get_or ps i no_pair).upper n && above_has (get_or ps i no_pair).lower t m) || pair_broken (drop (i + 1) ps) n t m)
+    ≡ (((get_or ps i no_pair).upper == n && above_has (get_or ps i no_pair).lower t m) || pair_broken (drop (i + 1) ps) n t m)
 broken_step ps n t m i l = rw (drop_more ps i no_pair l)
 
 pub broken_end : (ps : List Pair) (n : ℕ) (t : List Row) (m : List Mark) (i : ℕ) → length ps ≤ i → pair_broken (drop i ps) n t m ≡ false

@@ -38,7 +38,7 @@ module _ {X : Type 0} (key : X → ℕ) where
       and_from (from_key key (key y) (inserted_by key x ys)) (ascending key (inserted_by key x ys))
       (from_inserted (key y) x ys f (ltb-false (key x) (key y) e)) s
 
-  ascending_inserted : (x : X) (xs : List X) → ascending key xs ≡ true → ascending key (inserted_by key x xs) ≡ true
+  pub ascending_inserted : (x : X) (xs : List X) → ascending key xs ≡ true → ascending key (inserted_by key x xs) ≡ true
   ascending_inserted x [] a = refl
   ascending_inserted x (y ∷ ys) a =
       let p = and_parts (from_key key (key y) ys) (ascending key ys) a in

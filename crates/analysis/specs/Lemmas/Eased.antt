@@ -96,30 +96,30 @@ response_bounds b t m i w q e = let s = solves b t m i w e in (omega arith, s.1)
 response_own : (b : ℕ) → OwnMark (response b)
 response_own b t m i x q = rw (set-set m i x Below)
 
-exact_bounds : Bounds exact
+pub exact_bounds : Bounds exact
 exact_bounds = response_bounds 0
 
-exact_promotion : Promotion exact
+pub exact_promotion : Promotion exact
 exact_promotion t m i k w q l ne a e =
     eased 0 0 t t m (slice_set m k Below) i i w (costs q) refl
     (λ h. omega (arith, interference_promoted t m i k w l ne (q.ranges k l).period_least a h)) e
 
-exact_withdrawal : Withdrawal exact
+pub exact_withdrawal : Withdrawal exact
 exact_withdrawal t m i k w q l ne a e =
     eased 0 0 t (remove t k) m (remove m k) i (place_after k i) w (costs q) (row_removed k i ne t l)
     (λ h. omega (arith, interference_removed k i ne t m w a)) e
 
-exact_own : OwnMark exact
+pub exact_own : OwnMark exact
 exact_own = response_own 0
 
 pub exact_lawful : Lawful exact
 exact_lawful = record { bounds = exact_bounds; promotion = exact_promotion; withdrawal = exact_withdrawal; own = exact_own }
 
 -- with sections
-sections_bounds : Bounds sections
+pub sections_bounds : Bounds sections
 sections_bounds t m i = response_bounds (blocking t m i) t m i
 
-sections_promotion : Promotion sections
+pub sections_promotion : Promotion sections
 sections_promotion t m i k w q l ne a e =
     eased (blocking t m i) (blocking t (slice_set m k Below) i) t t m (slice_set m k Below) i i w (costs q) refl
     (λ h. omega (
@@ -129,13 +129,13 @@ sections_promotion t m i k w q l ne a e =
       (q.ranges k l).section_most,
     )) e
 
-sections_withdrawal : Withdrawal sections
+pub sections_withdrawal : Withdrawal sections
 sections_withdrawal t m i k w q l ne a e =
     eased (blocking t m i) (blocking (remove t k) (remove m k) (place_after k i)) t (remove t k) m (remove m k) i (place_after k i) w
     (costs q) (row_removed k i ne t l)
     (λ h. omega (arith, interference_removed k i ne t m w a, blocking_removed k i ne t m a)) e
 
-sections_own : OwnMark sections
+pub sections_own : OwnMark sections
 sections_own t m i x q = rw (set-set m i x Below, set-set m i x Above)
 
 pub sections_lawful : Lawful sections
@@ -163,10 +163,10 @@ linear_eased t t' m m' i i' w same less e =
     let r = (row_at t i).cost + interference t' m' i' d in
     rw same (r, (cond-true (nat_le r d) (OnTime r) Late (le-leb r d (omega arith)), omega arith))
 
-linear_bounds : Bounds linear
+pub linear_bounds : Bounds linear
 linear_bounds t m i w q e = let s = linear_solves t m i w e in (omega arith, s.1)
 
-linear_promotion : Promotion linear
+pub linear_promotion : Promotion linear
 linear_promotion t m i k w q l ne a e =
     linear_eased t t m (slice_set m k Below) i i w refl
     (omega (
@@ -175,12 +175,12 @@ linear_promotion t m i k w q l ne a e =
           (q.ranges i q.within).deadline_least,
     )) e
 
-linear_withdrawal : Withdrawal linear
+pub linear_withdrawal : Withdrawal linear
 linear_withdrawal t m i k w q l ne a e =
     linear_eased t (remove t k) m (remove m k) i (place_after k i) w (row_removed k i ne t l)
     (omega (arith, interference_removed k i ne t m (row_at t i).deadline a)) e
 
-linear_own : OwnMark linear
+pub linear_own : OwnMark linear
 linear_own t m i x q = rw (set-set m i x Below)
 
 pub linear_lawful : Lawful linear

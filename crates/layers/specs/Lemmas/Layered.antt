@@ -35,21 +35,21 @@ kept_by p d w x h l =
     rw h.1.0 (h.0, (cond-true (nat_le (h.0 * 100) (d * (100 - p))) (OnTime h.0) Late (le-leb (h.0 * 100) (d * (100 - p)) (omega arith)), h.1.1))
 
 module _ (p : ℕ) (v : Meaning) where
-  margin_bounds : Bounds v → Bounds (with_margin p v)
+  pub margin_bounds : Bounds v → Bounds (with_margin p v)
   margin_bounds law t m i w q e = law t m i w q (kept_on_time p (row_at t i).deadline w (v t m i) e).0
 
-  margin_promotion : Promotion v → Promotion (with_margin p v)
+  pub margin_promotion : Promotion v → Promotion (with_margin p v)
   margin_promotion law t m i k w q l ne a e =
       let s = kept_on_time p (row_at t i).deadline w (v t m i) e in
       kept_by p (row_at t i).deadline w (v t (slice_set m k Below) i) (law t m i k w q l ne a s.0) s.1
 
-  margin_withdrawal : Withdrawal v → Withdrawal (with_margin p v)
+  pub margin_withdrawal : Withdrawal v → Withdrawal (with_margin p v)
   margin_withdrawal law t m i k w q l ne a e =
       let s = kept_on_time p (row_at t i).deadline w (v t m i) e in
       rw (row_removed k i ne t l)
       (kept_by p (row_at t i).deadline w (v (remove t k) (remove m k) (place_after k i)) (law t m i k w q l ne a s.0) s.1)
 
-  margin_own : OwnMark v → OwnMark (with_margin p v)
+  pub margin_own : OwnMark v → OwnMark (with_margin p v)
   margin_own law t m i x q = ap (kept_within p (row_at t i).deadline) (law t m i x q)
 
   pub margin_lawful : Lawful v → Lawful (with_margin p v)
@@ -90,7 +90,7 @@ raised_removed s t k =
     ∙ rw (take-map (raised s) k t, drop-map (raised s) (suc k) t)
 
 module _ (s : ℕ) (v : Meaning) where
-  charged_bounds : Bounds v → Bounds (charged s v)
+  pub charged_bounds : Bounds v → Bounds (charged s v)
   charged_bounds law t m i w q e =
       let b = law (map (raised s) t) m i w (raised_fair s q) e in
       let r : row_at (map (raised s) t) i ≡ raised s (row_at t i) = row_raised s t i q.within in
@@ -98,15 +98,15 @@ module _ (s : ℕ) (v : Meaning) where
       let low : (raised s (row_at t i)).cost ≤ w = rw r at b.0 in
       (omega arith, rw r at b.1)
 
-  charged_promotion : Promotion v → Promotion (charged s v)
+  pub charged_promotion : Promotion v → Promotion (charged s v)
   charged_promotion law t m i k w q l ne a e =
       law (map (raised s) t) m i k w (raised_fair s q) (rw (length-map t (raised s)) l) ne a e
 
-  charged_withdrawal : Withdrawal v → Withdrawal (charged s v)
+  pub charged_withdrawal : Withdrawal v → Withdrawal (charged s v)
   charged_withdrawal law t m i k w q l ne a e =
       rw (raised_removed s t k) (law (map (raised s) t) m i k w (raised_fair s q) (rw (length-map t (raised s)) l) ne a e)
 
-  charged_own : OwnMark v → OwnMark (charged s v)
+  pub charged_own : OwnMark v → OwnMark (charged s v)
   charged_own law t m i x q = law (map (raised s) t) m i x (raised_fair s q)
 
   pub charged_lawful : Lawful v → Lawful (charged s v)

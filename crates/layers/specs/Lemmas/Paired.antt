@@ -66,17 +66,17 @@ module _ (ps : List Pair) (v : Meaning) where
   kept t m i w h o =
       (o.0, (cond-false (pair_broken ps (row_at t i).number t (slice_set m i Below)) Late (v t m i) h ∙ o.1.0, o.1.1))
 
-  pairs_bounds : Bounds v → Bounds (with_pairs ps v)
+  pub pairs_bounds : Bounds v → Bounds (with_pairs ps v)
   pairs_bounds law t m i w q e = law t m i w q (unbroken t m i w e).1
 
-  pairs_promotion : Promotion v → Promotion (with_pairs ps v)
+  pub pairs_promotion : Promotion v → Promotion (with_pairs ps v)
   pairs_promotion law t m i k w q l ne a e =
       let s = unbroken t m i w e in
       kept t (slice_set m k Below) i w
       (rw (set_comm m k i Below Below ne) (broken_promoted ps (row_at t i).number t (slice_set m i Below) k s.0))
       (law t m i k w q l ne a s.1)
 
-  pairs_withdrawal : Withdrawal v → Withdrawal (with_pairs ps v)
+  pub pairs_withdrawal : Withdrawal v → Withdrawal (with_pairs ps v)
   pairs_withdrawal law t m i k w q l ne a e =
       let s = unbroken t m i w e in
       kept (remove t k) (remove m k) (place_after k i) w
@@ -84,7 +84,7 @@ module _ (ps : List Pair) (v : Meaning) where
       (broken_removed ps (row_at t i).number t (slice_set m i Below) k (get_or-set_other m i k Below Above ne ∙ a) ∙ s.0))
       (law t m i k w q l ne a s.1)
 
-  pairs_own : OwnMark v → OwnMark (with_pairs ps v)
+  pub pairs_own : OwnMark v → OwnMark (with_pairs ps v)
   pairs_own law t m i x q = rw (set-set m i x Below, law t m i x q)
 
   pub pairs_lawful : Lawful v → Lawful (with_pairs ps v)
