@@ -3,9 +3,10 @@ ghost use Rattle.std.specs.Prelude.{◌≡◌, ◌≤◌};
 ghost use Rattle.layers.specs.Outcomes.{setting, setting_of};
 
 use crate::fault::LayerFault;
+use std::fmt;
 
 /// A number from 0 to `MOST`.
-#[derive(Clone, Copy, PartialEq, Eq, Debug)]
+#[derive(Clone, Copy, PartialEq, Eq)]
 pub struct Setting<const MOST: u32> {
     value: u32,
     ghost most: { value ≤ MOST },
@@ -40,5 +41,17 @@ impl<const MOST: u32> Setting<MOST> {
         ensures { (result ≡ self.entry.value) × (result ≤ MOST) }
     {
         self.value
+    }
+}
+
+// By hand: what is printed names the setting, and a derive would name the struct that all settings share.
+impl<const MOST: u32> fmt::Debug for Setting<MOST> {
+    fn fmt<W: fmt::Write>(&self, f: &mut fmt::Formatter<W>) -> fmt::Result {
+        let name = match MOST {
+            10_000 => "Ticks",
+            99 => "Percent",
+            _ => "Setting",
+        };
+        f.debug_struct(name).field("value", &self.value).finish()
     }
 }

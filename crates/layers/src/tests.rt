@@ -68,3 +68,12 @@ fn a_pile_is_asked_from_its_top(rt: HostRuntime) -> Result<(), Fail> {
     assert_eq!(rt; pile.ask(&TABLE, &MARKS, 0)?, Verdict::Late);
     Ok(())
 }
+
+#[test]
+fn settings_print_their_names(rt: HostRuntime) -> Result<(), Fail> {
+    let ticks = Ticks::new(5)?;
+    let percent = Percent::new(7)?;
+    let text = format!(in rt.alloc(); "{ticks:?} {percent:?}")?;
+    assert_eq!(rt; text.as_str(), "Ticks { value: 5 } Percent { value: 7 }");
+    Ok(())
+}
