@@ -1,3 +1,4 @@
+pub mod Puts
 pub mod Fits
 pub mod Obeying
 pub mod Coursing

@@ -1,84 +1,98 @@
-//! The text of answers.
-ghost use Rattle.std.specs.Prelude.{◌≡◌, ◌+◌, ◌≤◌, ◌++◌, length, decimal};
+//! Writes the text of answers into a caller's room.
+ghost use Rattle.std.specs.Prelude.{◌+◌, ◌≤◌, length, decimal};
+ghost use Rattle.std.specs.List.{flat_map};
 ghost use Rattle.script.specs.Works.{Fitting, outcome_text};
-ghost use Rattle.script.specs.Refusals.{refusal_of};
-ghost use Rattle.script.specs.Answers.{item, items, line_text, refusal_text, plan_text, Writes};
+ghost use Rattle.script.specs.Answers.{item, items, line_text, refusal_text, plan_text, Puts, Writes};
 
 use crate::fault::Fault;
-use arrayvec::ArrayString;
-use itoa::Buffer;
 use mapping::{Issued, PlanLine};
 
-// By functions that ask for room, and not by `write!`: no contract of it says that a text that fits is written whole.
-
-/// Appends the digits of a number.
-fn push_number<const N: usize>(text: &mut ArrayString<N>, n: u32)
-    requires { length text.old.bytes + length (decimal n) ≤ N }
-    ensures { text.new.bytes ≡ text.old.bytes ++ decimal n }
+/// Puts `text` at a place, and gives the place after it.
+fn put(room: &mut [u8], place: usize, text: &[u8]) -> usize
+    requires { place + length text.now ≤ length room.old }
+    ensures { Puts room.old place text.now result room.new }
 {
-    text.push_str(Buffer::new().format(n));
+    let end = place + text.len();
+    room[place..end].copy_from_slice(text);
+    end
 }
 
-/// Appends a comma and a number.
-fn push_item<const N: usize>(text: &mut ArrayString<N>, n: u32)
-    requires { length text.old.bytes + length (item n) ≤ N }
-    ensures { text.new.bytes ≡ text.old.bytes ++ item n }
+/// Puts the digits of a number at a place, and gives the place after them.
+fn put_number(room: &mut [u8], place: usize, n: u32) -> usize
+    requires { place + length (decimal n) ≤ length room.old }
+    ensures { Puts room.old place (decimal n) result room.new }
 {
-    text.push(',');
-    push_number(text, n);
-}
-
-/// Appends three numbers, each after a comma, and byte 10.
-fn push_items<const N: usize>(text: &mut ArrayString<N>, a: u32, b: u32, c: u32)
-    requires { length text.old.bytes + length (items a b c) ≤ N }
-    ensures { text.new.bytes ≡ text.old.bytes ++ items a b c }
-{
-    push_item(text, a);
-    push_item(text, b);
-    push_item(text, c);
-    text.push('\n');
-}
-
-/// Appends a line of a plan.
-fn push_line<const N: usize>(text: &mut ArrayString<N>, line: PlanLine)
-    requires { length text.old.bytes + length (line_text line) ≤ N }
-    ensures { text.new.bytes ≡ text.old.bytes ++ line_text line }
-{
-    push_number(text, line.task);
-    push_items(text, line.place, line.number, line.response);
-}
-
-/// The text of a refusal: seven letters, three numbers of at most ten digits after commas, and byte 10.
-pub(crate) fn refusal(line: u32, fault: Fault) -> ArrayString<41>
-    ensures { result.bytes ≡ refusal_text line (refusal_of fault).field (refusal_of fault).code }
-{
-    let mut text = ArrayString::new();
-    text.push_str("refused");
-    push_items(&mut text, line, fault.field(), fault.code());
-    text
-}
-
-/// The text of a plan.
-fn plan(line: u32, issued: Issued, rows: &[PlanLine]) -> ArrayString<4096>
-    requires { length (plan_text line issued.tasks issued.lines rows.now) ≤ 4096 }
-    ensures { result.bytes ≡ plan_text line issued.tasks issued.lines rows.now }
-{
-    let mut text = ArrayString::new();
-    text.push_str("plan");
-    push_items(&mut text, line, issued.tasks, issued.lines);
-    for row in rows {
-        push_line(&mut text, *row);
+    if n < 10 {
+        return put(room, place, &[b'0' + n as u8]);
     }
-    text
+    let last = put_number(room, place, n / 10);
+    put(room, last, &[b'0' + (n % 10) as u8])
 }
 
-/// Writes a text to the front of a room, and gives the number of its bytes.
-fn put(room: &mut [u8], text: &str) -> usize
-    requires { length text.now ≤ length room.old }
-    ensures { Writes room.old text.now result room.new }
+/// Puts a comma and a number at a place, and gives the place after them.
+fn put_item(room: &mut [u8], place: usize, n: u32) -> usize
+    requires { place + length (item n) ≤ length room.old }
+    ensures { Puts room.old place (item n) result room.new }
 {
-    room[..text.len()].copy_from_slice(text.as_bytes());
-    text.len()
+    let digits = put(room, place, b",");
+    put_number(room, digits, n)
+}
+
+/// Puts three numbers, each after a comma, and byte 10 at a place, and gives the place after them.
+fn put_items(room: &mut [u8], place: usize, a: u32, b: u32, c: u32) -> usize
+    requires { place + length (items a b c) ≤ length room.old }
+    ensures { Puts room.old place (items a b c) result room.new }
+{
+    let second = put_item(room, place, a);
+    let third = put_item(room, second, b);
+    let end = put_item(room, third, c);
+    put(room, end, b"\n")
+}
+
+/// Puts a line of a plan at a place, and gives the place after it.
+fn put_line(room: &mut [u8], place: usize, line: PlanLine) -> usize
+    requires { place + length (line_text line) ≤ length room.old }
+    ensures { Puts room.old place (line_text line) result room.new }
+{
+    let rest = put_number(room, place, line.task);
+    put_items(room, rest, line.place, line.number, line.response)
+}
+
+/// Puts the lines of a plan at a place, and gives the place after them.
+fn put_lines(room: &mut [u8], place: usize, lines: &[PlanLine]) -> usize
+    requires { place + length (flat_map line_text lines.now) ≤ length room.old }
+    ensures { Puts room.old place (flat_map line_text lines.now) result room.new }
+{
+    let mut end = place;
+    for line in lines {
+        end = put_line(room, end, *line);
+    }
+    end
+}
+
+/// Writes a refusal into a room that it fits, and gives the number of its bytes.
+pub(crate) fn write_refusal(room: &mut [u8], line: u32, field: u32, code: u32) -> usize
+    requires { length (refusal_text line field code) ≤ length room.old }
+    ensures { Writes room.old (refusal_text line field code) result room.new }
+{
+    let rest = put(room, 0, b"refused");
+    put_items(room, rest, line, field, code)
+}
+
+/// Writes a plan into a room that it fits, and gives the number of its bytes.
+pub(crate) fn write_plan(
+    room: &mut [u8],
+    line: u32,
+    tasks: u32,
+    rows: u32,
+    lines: &[PlanLine],
+) -> usize
+    requires { length (plan_text line tasks rows lines.now) ≤ length room.old }
+    ensures { Writes room.old (plan_text line tasks rows lines.now) result room.new }
+{
+    let rest = put(room, 0, b"plan");
+    let first = put_items(room, rest, line, tasks, rows);
+    put_lines(room, first, lines)
 }
 
 /// Writes what an outcome is answered with, whose plan stands at the front of `lines`, and gives the number of its bytes.
@@ -97,9 +111,9 @@ pub(crate) fn write_outcome(
     match outcome {
         Ok(None) => 0,
         Ok(Some(issued)) => {
-            let rows = &lines[..issued.lines as usize];
-            put(room, plan(line, issued, rows).as_str())
+            let front = &lines[..issued.lines as usize];
+            write_plan(room, line, issued.tasks, issued.lines, front)
         }
-        Err(fault) => put(room, refusal(line, fault).as_str()),
+        Err(fault) => write_refusal(room, line, fault.field(), fault.code()),
     }
 }

@@ -1,11 +1,13 @@
 //! All that is written for a script.
 ghost use Rattle.std.specs.Prelude.{◌≡◌, ℕ, IfOk};
 ghost use Rattle.reading.specs.Lines.{lines_of};
+ghost use Rattle.script.specs.Answers.{refusal_text};
 ghost use Rattle.script.specs.Begun.{script_of, taken_of};
+ghost use Rattle.script.specs.Refusals.{refusal_of};
 ghost use Rattle.script.specs.Sessions.{RowBetween, ScriptLaw, answers_from, output, start};
 
-use crate::answer::refusal;
-use crate::fault::BeginFault;
+use crate::answer::write_refusal;
+use crate::fault::{BeginFault, Fault};
 use crate::session::{LEAST_ROOM, Session};
 use std::alloc::{AllocError, Global};
 
@@ -23,6 +25,15 @@ fn answer_lines(heap: Global, mut session: Session) -> Result<Vec<u8>, AllocErro
     Ok(out)
 }
 
+/// The refusal of a whole script.
+fn refuse_script(heap: Global, fault: Fault) -> Result<Vec<u8>, AllocError>
+    ensures { IfOk result (λ v. v.items ≡ refusal_text 0 (refusal_of fault).field (refusal_of fault).code) }
+{
+    let mut room = [0u8; LEAST_ROOM];
+    let bytes = write_refusal(&mut room, 0, fault.field(), fault.code());
+    Vec::from_slice(heap, &room[..bytes])
+}
+
 /// All that is written for a script: the answers to its lines, one after the other; one refusal where it is too long.
 pub fn answers(heap: Global, script: &[u8]) -> Result<Vec<u8>, AllocError>
     ensures text { IfOk result (λ v. v.items ≡ output script.now) }
@@ -31,10 +42,7 @@ pub fn answers(heap: Global, script: &[u8]) -> Result<Vec<u8>, AllocError>
 {
     match Session::begin(heap, script) {
         Ok(session) => answer_lines(heap, session),
-        Err(BeginFault::Refused(fault)) => {
-            let text = refusal(0, fault);
-            Vec::from_slice(heap, text.as_str().as_bytes())
-        }
+        Err(BeginFault::Refused(fault)) => refuse_script(heap, fault),
         Err(BeginFault::Memory) => Err(AllocError),
     }
 }

@@ -17,6 +17,14 @@ use std::alloc::Global;
 /// The least bytes of a room for an answer.
 pub(crate) const LEAST_ROOM: usize = 4096;
 
+/// What stands in the array of plan lines before a plan does. A constant, so that a line that asks for no plan clears none.
+const NO_LINE: PlanLine = PlanLine {
+    task: 0,
+    place: 0,
+    number: 0,
+    response: 0,
+};
+
 impl<'a> Session<'a> {
     /// A session of a script, with nothing taken. Only this call can want memory.
     pub fn begin(heap: Global, script: &'a [u8]) -> Result<Session<'a>, BeginFault>
@@ -55,7 +63,7 @@ impl<'a> Session<'a> {
             return Ok(None);
         };
         // An array, since a call takes no memory.
-        let mut lines = [PlanLine::default(); MOST_ROWS];
+        let mut lines = [NO_LINE; MOST_ROWS];
         let outcome = self.work.take(read, &mut lines);
         // No loop counts here: the lines taken are the state of the session.
         self.taken += 1;
