@@ -1,17 +1,17 @@
 -- What `check` and the functions that call it give. Assumes nothing.
-use Rattle.std.proofs.Common.{arith, None, ◌≡◌, ℕ, ◌+◌, true, false, Bool, not, cond, position, eqb, List, [], ◌∷◌, map, length, drop, is_some, ◌≤◌, IfOk, Some, Option, Result, sym, refl, ap, ◌∙◌, subst, ne_eqb}
+use Rattle.std.proofs.Common.{None, ◌≡◌, ℕ, ◌+◌, true, false, Bool, not, cond, position, eqb, List, [], ◌∷◌, map, length, drop, is_some, IfOk, get_or, Some, Ok, Option, Result, sym, refl, ap, ◌∙◌, subst, eq-eqb, ne_eqb}
 use lib.ListN.{length-map}
-use Rattle.std.specs.List.{position_from}
+use Rattle.std.specs.List.{position_from, range_with_len}
 use Rattle.std.proofs.lemmas.Iterator.Adapters.{position_from-zero}
-use Rattle.std.proofs.lemmas.Bool.{cond-false}
+use Rattle.std.proofs.lemmas.Bool.{cond-true, cond-false}
+use Rattle.std.proofs.lemmas.List.FromFn.{fill_by_all}
 use Rattle.reading.specs.declared.field.Field.{Field}
 use Rattle.reading.specs.declared.line.Line.{Line}
 use Rattle.reading.specs.declared.words.Word.{Word}
-use Rattle.reading.specs.declared.words.Word.TheVariants as w
 use Rattle.reading.specs.declared.fault.TextFault.{TextFault}
 use Rattle.reading.specs.Lines.{fields_of}
 use Rattle.reading.specs.Numbers.{number}
-use Rattle.reading.specs.Says.{word_of, outcome, reading_of, reads_if, reads_fields, Read, Stands, refused, counted, numbered, LineAs, LineOf, reads}
+use Rattle.reading.specs.Says.{word_of, outcome, says, said, Said, reading_of, reads_if, reads_fields, Read, Stands, refused, counted, numbered, LineAs, LineOf, reads}
 use Rattle.reading.specs.Reading.{text, spot, spots_in, texts_in}
 use Rattle.reading.proofs.Cuts.{texts_in_is}
 
@@ -23,42 +23,18 @@ texts_are o fs e = texts_in_is o ∙ ap (map (λ s. s.text)) e ∙ texts_of fs
     texts_of [] = refl
     texts_of (g ∷ gs) = ap (λ l. text g ∷ l) (texts_of gs)
 
--- how many fields a word has after it
-abbrev pub count_of : Word → ℕ
-count_of w.Row = 5
-count_of w.Strike = 1
-count_of w.Pair = 2
-count_of w.Charge = 1
-count_of w.Margin = 1
-count_of w.Map = 2
+-- what the fields of a line come to
+module _ (o : Option Field) (n : ℕ) where
+  pub some_fields : (fs : List Field) → spots_in o ≡ map spot fs → length fs ≡ n → (x : Read) → counted n (texts_in o) (numbered 1 (texts_in o) x) ≡ numbered 1 (map text fs) x
+  some_fields fs e long x =
+      let same = texts_are o fs e in
+      let count : length (texts_in o) ≡ n = ap length same ∙ length-map fs text ∙ long in
+      cond-true (eqb (length (texts_in o)) n) _ _ (eq-eqb _ _ count) ∙ ap (λ l. numbered 1 l x) same
 
--- any other count is refused
-pub miscounted : (v : Word) (fs : List (List ℕ)) → (length fs ≡ count_of v → ⊥) → reads v fs ≡ refused 1 0
-miscounted v fs h = by v h
-  where
-    other : (n : ℕ) (x : Read) → (length fs ≡ n → ⊥) → counted n fs x ≡ refused 1 0
-    other n x k = cond-false (eqb (length fs) n) _ _ (ne_eqb _ _ k)
-
-    by : (u : Word) → (length fs ≡ count_of u → ⊥) → reads u fs ≡ refused 1 0
-    by w.Row k = other 5 _ k
-    by w.Strike k = other 1 _ k
-    by w.Pair k = other 2 _ k
-    by w.Charge k = other 1 _ k
-    by w.Margin k = other 1 _ k
-    by w.Map k = other 2 _ k
-
-pub many : (v : Word) (o : Option Field) → ((n : ℕ) → n ≤ 5 → length (spots_in o) ≡ n → ⊥) → reads v (texts_in o) ≡ refused 1 0
-many v o h =
-    let count : length (texts_in o) ≡ length (spots_in o) = ap length (texts_in_is o) ∙ length-map (spots_in o) (λ s. s.text) in
-    miscounted v (texts_in o) (λ e. h (count_of v) (few v) (sym count ∙ e))
-  where
-    few : (u : Word) → count_of u ≤ 5
-    few w.Row = omega arith
-    few w.Strike = omega arith
-    few w.Pair = omega arith
-    few w.Charge = omega arith
-    few w.Margin = omega arith
-    few w.Map = omega arith
+  pub other_fields : (length (spots_in o) ≡ n → ⊥) → (x : Read) → counted n (texts_in o) x ≡ refused 1 0
+  other_fields h x =
+      let count : length (texts_in o) ≡ length (spots_in o) = ap length (texts_in_is o) ∙ length-map (spots_in o) (λ s. s.text) in
+      cond-false (eqb (length (texts_in o)) n) _ _ (ne_eqb _ _ (λ e. h (sym count ∙ e)))
 
 -- what the leftmost field that is no number tells of the line
 abbrev other : Field → Bool
@@ -82,6 +58,19 @@ one_other fs i e x = others x fs (Some i) e
 
 pub no_other : (fs : List Field) → None ≡ position (λ f. not (is_some (number (text f)))) fs → (x : Read) → numbered 1 (map text fs) x ≡ x
 no_other fs e x = others x fs None e
+
+-- what an array pattern reads where there is no field
+abbrev pub blank : Field
+blank = record { bytes = record { ref_ptr = (0, 0); now = [] }; place = 0 }
+
+-- fields as an array pattern names them
+pub listed : (fs : List Field) (n : ℕ) (d : Field) → length fs ≡ n → fs ≡ map (λ k. get_or fs k d) (range_with_len 0 n)
+listed fs n d long = fill_by_all (λ k. get_or fs k d) fs n d long (λ k h. refl)
+
+-- the line that a word makes of number fields
+pub line_read : (v u : Word) (o : Option Field) (l : Line) (k : List (List ℕ) → Said) (fs : List Field) → v ≡ u → reads u (texts_in o) ≡ says (k (texts_in o)) → spots_in o ≡ map spot fs → said l ≡ k (map text fs) → Stands (map spot fs) l → LineAs v o (Ok l)
+line_read v u o l k fs is told e same stands =
+    (ap says (same ∙ ap k (sym (texts_are o fs e))) ∙ sym told ∙ ap (λ j. reads j (texts_in o)) (sym is), subst (λ ss. Stands ss l) (sym e) stands)
 
 -- the line of the fields that are left
 pub line_as : (v : Word) (o : Option Field) (fs : List Field) (r : Result Line TextFault) → spots_in o ≡ map spot fs → LineOf v fs r → LineAs v o r

@@ -1,5 +1,6 @@
 -- Where a list is cut at its first b. Assumes nothing.
 use Rattle.std.proofs.Common.{◌≡◌, ℕ, suc, ◌+◌, ◌-◌, ◌<◌, ◌≤◌, true, false, cond, eqb, List, [], ◌∷◌, map, length, take, drop, position, ◌==◌, Some, None, Option, sym, refl, ap, ◌∙◌, add-one, arith, length-drop}
+use lib.ListN.{length-map}
 use Rattle.std.specs.List.{position_or_len}
 use Rattle.std.proofs.lemmas.List.Recursion.{is_position_or_len}
 use Rattle.std.proofs.lemmas.Bool.Decides.{nat_tests}
@@ -122,3 +123,9 @@ texts_spots p (f ∷ fs) = ap (λ l. f ∷ l) (texts_spots (p + length f + 1) fs
 pub texts_in_is : (o : Option Field) → texts_in o ≡ map (λ s. s.text) (spots_in o)
 texts_in_is None = refl
 texts_in_is (Some f) = sym (texts_spots f.place (fields_of (text f)))
+
+-- what is left of a line has a field
+pub spots_any : (f : Field) → 0 < length (spots_in (Some f))
+spots_any f =
+    let count : length (fields_of (text f)) ≡ length (spots_in (Some f)) = ap length (texts_in_is (Some f)) ∙ length-map (spots_in (Some f)) (λ s. s.text) in
+    omega (arith, count, fields_any (text f))

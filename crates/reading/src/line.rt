@@ -1,14 +1,13 @@
 //! The lines of a script, by kind.
-ghost use Rattle.std.specs.Prelude.{◌≡◌, ◌<◌, [], ◌∷◌, drop, length, map, IfOk};
+ghost use Rattle.std.specs.Prelude.{◌≡◌, [], ◌∷◌, drop, IfOk};
 ghost use Rattle.reading.specs.Reading.{text, spots_in, Inside};
-ghost use Rattle.reading.specs.Says.{reading_of, outcome, numbered, says, said, LineAs, LineOf, Stands};
+ghost use Rattle.reading.specs.Says.{reading_of, outcome, LineAs, LineOf, Stands};
 
 use crate::fault::TextFault;
 use crate::field::{Field, first_field};
-use crate::fields::{check, fields_in};
+use crate::fields::{fields_in, numbers_in};
 use crate::words::{Word, choice_of, rule_of, word_of};
 use analysis::Choice;
-use arrayvec::ArrayVec;
 use mapping::Rule;
 
 /// A line that is well formed, with its fields after the word as they stand in the script.
@@ -48,6 +47,23 @@ pub enum Line<'a> {
     },
 }
 
+/// The line `row` of what is left after its word.
+fn row_of<'a>(rest: Option<Field<'a>>) -> Result<Line<'a>, TextFault>
+    requires { Inside rest }
+    ensures { LineAs Word.Row rest.entry result }
+{
+    let mut fields = [Field::default(); 5];
+    numbers_in(rest, &mut fields)?;
+    let [number, cost, period, deadline, section] = fields;
+    Ok(Line::Row {
+        number,
+        cost,
+        period,
+        deadline,
+        section,
+    })
+}
+
 /// The line `map` of the two fields after its word.
 fn map_of<'a>(analysis: Field<'a>, grouping: Field<'a>) -> Result<Line<'a>, TextFault>
     ensures { LineOf Word.Map (analysis.entry ∷ grouping.entry ∷ []) result }
@@ -62,46 +78,44 @@ fn map_of<'a>(analysis: Field<'a>, grouping: Field<'a>) -> Result<Line<'a>, Text
     })
 }
 
-/// The line, where the fields are number fields.
-fn of_numbers<'a>(fields: &ArrayVec<Field<'a>, 5>, line: Line<'a>) -> Result<Line<'a>, TextFault>
-    ensures value { outcome result ≡ numbered 1 (map text fields.now.items) (says (said line.entry)) }
-    ensures same { IfOk result (λ l. l ≡ line.entry) }
-{
-    check(fields.as_slice())?;
-    Ok(line)
-}
-
-/// The line that a word and the fields after it make.
-fn kind_of<'a>(word: Word, fields: &ArrayVec<Field<'a>, 5>) -> Result<Line<'a>, TextFault>
-    ensures { LineOf word fields.now.items result }
-{
-    match (word, fields.as_slice()) {
-        (Word::Row, &[number, cost, period, deadline, section]) => of_numbers(
-            fields,
-            Line::Row {
-                number,
-                cost,
-                period,
-                deadline,
-                section,
-            },
-        ),
-        (Word::Strike, &[number]) => of_numbers(fields, Line::Strike { number }),
-        (Word::Pair, &[u, l]) => of_numbers(fields, Line::Pair { u, l }),
-        (Word::Charge, &[s]) => of_numbers(fields, Line::Charge { s }),
-        (Word::Margin, &[p]) => of_numbers(fields, Line::Margin { p }),
-        (Word::Map, &[analysis, grouping]) => map_of(analysis, grouping),
-        _ => Err(TextFault::Form),
-    }
-}
-
 /// The line that a word and what is left after it make.
 fn line_of<'a>(word: Word, rest: Option<Field<'a>>) -> Result<Line<'a>, TextFault>
     requires { Inside rest }
     ensures { LineAs word rest.entry result }
 {
-    let fields = fields_in(rest)?;
-    kind_of(word, &fields)
+    match word {
+        Word::Row => row_of(rest),
+        Word::Strike => {
+            let mut fields = [Field::default()];
+            numbers_in(rest, &mut fields)?;
+            let [number] = fields;
+            Ok(Line::Strike { number })
+        }
+        Word::Pair => {
+            let mut fields = [Field::default(); 2];
+            numbers_in(rest, &mut fields)?;
+            let [u, l] = fields;
+            Ok(Line::Pair { u, l })
+        }
+        Word::Charge => {
+            let mut fields = [Field::default()];
+            numbers_in(rest, &mut fields)?;
+            let [s] = fields;
+            Ok(Line::Charge { s })
+        }
+        Word::Margin => {
+            let mut fields = [Field::default()];
+            numbers_in(rest, &mut fields)?;
+            let [p] = fields;
+            Ok(Line::Margin { p })
+        }
+        Word::Map => {
+            let mut fields = [Field::default(); 2];
+            fields_in(rest, &mut fields)?;
+            let [analysis, grouping] = fields;
+            map_of(analysis, grouping)
+        }
+    }
 }
 
 /// A line by its kind, or why it is refused.
