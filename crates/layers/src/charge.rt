@@ -1,5 +1,5 @@
 //! Every cost raised.
-ghost use Rattle.std.specs.Prelude.{◌≡◌, ◌≤◌, map, length};
+ghost use Rattle.std.specs.Prelude.{◌≡◌, ◌≤◌, [], map, length};
 ghost use Rattle.layers.specs.Layers.{charged, raised};
 ghost use Rattle.layers.specs.Lemmas.Layered.{charged_lawful};
 
@@ -26,16 +26,16 @@ fn raise(row: Row, by: Ticks) -> Row
     }
 }
 
-/// The rows of a table raised.
-fn raise_all(table: &[Row], by: Ticks) -> ArrayVec<Row, MOST_ROWS>
-    requires { length table.now ≤ 128 }
-    ensures { result.items ≡ map (raised by.value) table.now }
+/// Appends the rows of a table, raised, to `rows`, which is empty.
+// The vector is lent, since handing one out would copy all its places.
+fn raise_all(table: &[Row], by: Ticks, rows: &mut ArrayVec<Row, MOST_ROWS>)
+    requires few { length table.now ≤ 128 }
+    requires empty { rows.old.items ≡ [] }
+    ensures { rows.new.items ≡ map (raised by.value) table.now }
 {
-    let mut rows = ArrayVec::new();
     for row in table {
         rows.push(raise(*row, by));
     }
-    rows
 }
 
 impl<A: Analysis> Analysis for Charge<A> {
@@ -48,7 +48,8 @@ impl<A: Analysis> Analysis for Charge<A> {
             return self.below.ask(table, marks, place);
         }
         check_question(table, marks, place)?;
-        let rows = raise_all(table, self.ticks);
+        let mut rows = ArrayVec::new();
+        raise_all(table, self.ticks, &mut rows);
         self.below.ask(rows.as_slice(), marks, place)
     }
 }

@@ -1,5 +1,5 @@
 //! The rows that may go into the next task.
-ghost use Rattle.std.specs.Prelude.{◌≡◌, ◌<◌, length, slice_index_or};
+ghost use Rattle.std.specs.Prelude.{◌≡◌, ◌<◌, [], length, slice_index_or};
 ghost use Rattle.analysis.specs.Questions.{row_at};
 ghost use Rattle.analysis.specs.declared.row.Mark.TheVariants.{Above};
 ghost use Rattle.mapping.specs.Plans.{candidates, if_on_time, if_unplaced};
@@ -39,17 +39,17 @@ impl<A: Analysis> Round<'_, A> {
         }
     }
 
-    /// The rows that may go into the next task, in sheet order.
-    pub(crate) fn candidates(&self) -> ArrayVec<Candidate, MOST_ROWS>
-        ensures { result.items ≡ candidates (A.Analysis.verdict self.now.analysis.now) self.now.rows.now self.now.marks.now }
+    /// Appends the rows that may go into the next task, in sheet order, to `found`, which is empty.
+    // The vector is lent, since handing one out would copy all its places.
+    pub(crate) fn candidates(&self, found: &mut ArrayVec<Candidate, MOST_ROWS>)
+        requires { found.old.items ≡ [] }
+        ensures { found.new.items ≡ candidates (A.Analysis.verdict self.now.analysis.now) self.now.rows.now self.now.marks.now }
     {
-        let mut found = ArrayVec::new();
         // By place, since an analysis is asked by place.
         for at in 0..self.rows.len() {
             if let Some(candidate) = self.candidate(at) {
                 found.push(candidate);
             }
         }
-        found
     }
 }

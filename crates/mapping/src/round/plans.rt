@@ -1,5 +1,5 @@
 //! The rounds of a mapping, from the lowest task upwards.
-ghost use Rattle.std.specs.Prelude.{◌≡◌, ◌≤◌, length, IfSome};
+ghost use Rattle.std.specs.Prelude.{◌≡◌, ◌≤◌, [], length, OnSome};
 ghost use Rattle.std.specs.Option.{option_map};
 ghost use Rattle.arrayvec.specs.ArrayVec.{array_vec_len};
 ghost use Rattle.mapping.specs.Plans.{all_above, plan};
@@ -10,19 +10,21 @@ use crate::round::{Lead, Round};
 use analysis::{Analysis, MOST_ROWS, Mark, Row};
 use arrayvec::ArrayVec;
 
-/// The lines of the plan of the rows; none where rows are left and none of them is a candidate.
+/// Appends the lines of the plan of the rows to `lines`, which is empty; there is no plan where rows are left and none of them is a candidate.
+// The vector is lent, since handing one out would copy all its places.
 pub(crate) fn plan_rows<A: Analysis>(
     analysis: &A,
     rule: Rule,
     rows: &[Row],
     marks: &mut [Mark],
-) -> Option<ArrayVec<PlanLine, MOST_ROWS>>
+    lines: &mut ArrayVec<PlanLine, MOST_ROWS>,
+) -> Option<()>
     requires asked { Asked rows.now marks.old }
     requires fresh { marks.old ≡ all_above rows.now }
-    ensures lines { option_map (λ ls. ls.items) result ≡ plan (A.Analysis.verdict analysis.now) rule rows.now }
-    ensures within { IfSome result (λ ls. array_vec_len ls ≤ length rows.now) }
+    requires empty { lines.old.items ≡ [] }
+    ensures lines { option_map (λ u. lines.new.items) result ≡ plan (A.Analysis.verdict analysis.now) rule rows.now }
+    ensures within { OnSome result (array_vec_len lines.new ≤ length rows.now) }
 {
-    let mut lines = ArrayVec::new();
     // Counted by hand: how many tasks there are shows only when no row is left.
     let mut task = 1;
     while lines.len() < rows.len() {
@@ -31,11 +33,12 @@ pub(crate) fn plan_rows<A: Analysis>(
             rows,
             marks,
         };
-        let candidates = round.candidates();
+        let mut candidates = ArrayVec::new();
+        round.candidates(&mut candidates);
         let found = candidates.as_slice();
         let lead = Lead::of(rule, found)?;
-        lead.place_members(task, found, &mut lines, marks);
+        lead.place_members(task, found, lines, marks);
         task += 1;
     }
-    Some(lines)
+    Some(())
 }

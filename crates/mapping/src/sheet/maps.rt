@@ -9,6 +9,7 @@ use crate::plan::{Issued, PlanLine, Rule};
 use crate::round::plans::plan_rows;
 use crate::sheet::Sheet;
 use analysis::{Analysis, MOST_ROWS, Mark};
+use arrayvec::ArrayVec;
 
 /// The task of the last line, which is the count of the tasks; 0 where there is no line.
 fn last_task(lines: &[PlanLine]) -> u32
@@ -46,9 +47,10 @@ impl Sheet {
         if room.len() < rows.len() {
             return Err(MapFault::Room);
         }
-        // An array, since a mapping takes no memory.
+        // Arrays, since a mapping takes no memory.
         let mut marks = [Mark::Above; MOST_ROWS];
-        let Some(lines) = plan_rows(analysis, rule, rows, &mut marks[..rows.len()]) else {
+        let mut lines = ArrayVec::new();
+        let Some(()) = plan_rows(analysis, rule, rows, &mut marks[..rows.len()], &mut lines) else {
             return Err(MapFault::Unschedulable);
         };
         let plan = lines.as_slice();

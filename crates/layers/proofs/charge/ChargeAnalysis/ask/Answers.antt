@@ -11,4 +11,4 @@ returns-then-value-eq0 g c =
 pub returns : goal.returns
 returns g c =
     charged_answer c.args.self.now.ticks.value (g.A.Analysis.verdict c.args.self.now.below) c.args.table.now _ c.args.marks.now c.args.place _
-    c.in_ok-check_question.ensures.fair (c.as_slice.ensures.value ∙ c.raise_all-rows.ensures) c.ask-2.ensures
+    c.in_ok-check_question.ensures.fair (c.as_slice.ensures.value ∙ c.raise_all.ensures) c.ask-2.ensures

@@ -21,25 +21,25 @@ loop-rule-init g c =
       c.requires.asked,
       omega arith,
       omega arith,
-      omega (arith, all, ap length c.new-lines.ensures),
-      rw c.new-lines.ensures
+      omega (arith, all, ap length c.requires.empty),
+      rw c.requires.empty
           (ahead_none _ ∙ ap (λ (k : ℕ). plan_from k v c.args.rule t 1 m) n ∙ ap (λ (u : List Mark). plan_from (length t) v c.args.rule t 1 u) c.requires.fresh),
     )
 
 pub of-requires : goal.of-requires
 of-requires g c =
-    let e = c.as_slice-found.ensures.value ∙ c.candidates-candidates.ensures in
+    let e = c.as_slice-found.ensures.value ∙ c.candidates.ensures in
     (subst (Usable (length c.loop-rule.marks)) (sym e) (usable (g.A.Analysis.verdict c.args.analysis.now) c.args.rows.now c.loop-rule.marks c.loop-rule.invariant.0)).periods
 
 pub place_members-requires-clause-usable : goal.place_members-requires-clause-usable
 place_members-requires-clause-usable g c =
-    let e = c.as_slice-found.ensures.value ∙ c.candidates-candidates.ensures in
+    let e = c.as_slice-found.ensures.value ∙ c.candidates.ensures in
     subst (Usable (length c.loop-rule.marks)) (sym e) (usable (g.A.Analysis.verdict c.args.analysis.now) c.args.rows.now c.loop-rule.marks c.loop-rule.invariant.0)
 
 pub place_members-requires-clause-room : goal.place_members-requires-clause-room
 place_members-requires-clause-room g c =
     let v = g.A.Analysis.verdict c.args.analysis.now in
-    let e = ap length (c.as_slice-found.ensures.value ∙ c.candidates-candidates.ensures) in
+    let e = ap length (c.as_slice-found.ensures.value ∙ c.candidates.ensures) in
     let most = count_most (v c.args.rows.now c.loop-rule.marks) 0 c.args.rows.now c.loop-rule.marks in
     let I = c.loop-rule.invariant in
     omega (arith, e, most, I.3, I.0.few)
@@ -54,7 +54,7 @@ loop-rule-preserved g c =
     let ls = c.loop-rule.lines.items in
     let ms = members rule (candidates v t m) in
     let I = c.loop-rule.invariant in
-    let found = c.as_slice-found.ensures.value ∙ c.candidates-candidates.ensures in
+    let found = c.as_slice-found.ensures.value ∙ c.candidates.ensures in
     let led_are = c.in_ok-lead.ensures.0 ∙ ap (members rule) found in
     let some = members_some rule (candidates v t m) (omega (arith, c.in_ok-lead.ensures.2, ap length found)) in
     let lines = c.place_members.ensures.lines ∙ ap (λ (u : List Candidate). ls ++ lines_from task 1 u) led_are in
@@ -77,7 +77,7 @@ loop-rule-smaller g c =
     let v = g.A.Analysis.verdict c.args.analysis.now in
     let ls = c.loop-rule.lines.items in
     let ms = members c.args.rule (candidates v c.args.rows.now c.loop-rule.marks) in
-    let found = c.as_slice-found.ensures.value ∙ c.candidates-candidates.ensures in
+    let found = c.as_slice-found.ensures.value ∙ c.candidates.ensures in
     let led_are = c.in_ok-lead.ensures.0 ∙ ap (members c.args.rule) found in
     let some = members_some c.args.rule (candidates v c.args.rows.now c.loop-rule.marks) (omega (arith, c.in_ok-lead.ensures.2, ap length found)) in
     let lines = c.place_members.ensures.lines ∙ ap (λ (u : List Candidate). ls ++ lines_from c.loop-rule.task 1 u) led_are in

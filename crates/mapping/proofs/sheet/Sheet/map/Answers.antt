@@ -18,7 +18,7 @@ plan_rows-requires g c =
     let rows = c.as_slice-rows.result.now in
     let limits = subst Limits (sym c.as_slice-rows.ensures.value) (sheet_limits c.args.self.now) in
     let fresh = fresh_marks rows limits.few in
-    record { asked = fresh_asked rows _ limits fresh; fresh = fresh }
+    record { asked = fresh_asked rows _ limits fresh; fresh = fresh; empty = c.new-lines.ensures }
 
 pub returns-in_default-clause-continues : goal.returns-in_default-clause-continues
 returns-in_default-clause-continues g c =
@@ -32,7 +32,7 @@ returns-clause-bounds g c =
     let a = c.args.analysis.now in
     let v = g.A.Analysis.verdict a in
     let t = rows_of c.args.self.now in
-    let ls = c.in-Some.lines.items in
+    let ls = c.plan_rows.new.lines.items in
     let plan_is : plan v c.args.rule t ≡ Some ls =
     sym (ap (λ (u : List Row). plan v c.args.rule u) c.as_slice-rows.ensures.value) ∙ sym c.in-Some.ensures.lines in
     let bounded = plan_bounded v (g.met.A.Analysis.lawful a) c.args.rule t (sheet_limits c.args.self.now) ls plan_is in
