@@ -17,6 +17,9 @@ use std::alloc::{AllocError, Global};
 #[derive(Drop)]
 pub(crate) struct Workspace {
     pub(crate) sheet: Sheet,
+    // Here, and not made anew for each line of a script: clearing it costs more than most lines.
+    /// The plan of the last mapping stands at its front.
+    pub(crate) lines: [PlanLine; MOST_ROWS],
     pub(crate) pile: Pairs<Margin<Charge<Choice>>>,
 }
 
@@ -37,6 +40,7 @@ impl Workspace {
         };
         Ok(Workspace {
             sheet,
+            lines: [PlanLine::default(); MOST_ROWS],
             pile: Pairs { pairs, below },
         })
     }
@@ -81,27 +85,18 @@ impl Workspace {
         Ok(None)
     }
 
-    /// Maps the rows that stand, under the named analysis below the layers.
-    fn map(
-        &mut self,
-        choice: Choice,
-        rule: Rule,
-        lines: &mut [PlanLine; MOST_ROWS],
-    ) -> Result<Option<Issued>, Fault>
-        ensures { Obeys self.old (says.mapping choice rule) self.new result lines.new }
+    /// Maps the rows that stand, under the named analysis below the layers; a plan's lines go to the front of `lines`.
+    fn map(&mut self, choice: Choice, rule: Rule) -> Result<Option<Issued>, Fault>
+        ensures { Obeys self.old (says.mapping choice rule) self.new result self.new.lines }
     {
         self.pile.below.below.below = choice;
-        let issued = self.sheet.map(&self.pile, rule, lines)?;
+        let issued = self.sheet.map(&self.pile, rule, &mut self.lines)?;
         Ok(Some(issued))
     }
 
-    /// Does what a line says; a plan's lines go to the front of `lines`.
-    fn obey(
-        &mut self,
-        line: Line,
-        lines: &mut [PlanLine; MOST_ROWS],
-    ) -> Result<Option<Issued>, Fault>
-        ensures { Obeys self.old (said line.entry) self.new result lines.new }
+    /// Does what a line says.
+    fn obey(&mut self, line: Line) -> Result<Option<Issued>, Fault>
+        ensures { Obeys self.old (said line.entry) self.new result self.new.lines }
     {
         // A match, since a line is one of six kinds, which the definitions tell in the same way.
         match line {
@@ -125,18 +120,14 @@ impl Workspace {
             Line::Pair { u, l } => self.pair(u.value(), l.value()),
             Line::Charge { s } => self.charge(s.value()),
             Line::Margin { p } => self.margin(p.value()),
-            Line::Map { choice, rule, .. } => self.map(choice, rule, lines),
+            Line::Map { choice, rule, .. } => self.map(choice, rule),
         }
     }
 
     /// Takes a line as it was read: a refused one changes nothing.
-    pub(crate) fn take(
-        &mut self,
-        read: Result<Line, TextFault>,
-        lines: &mut [PlanLine; MOST_ROWS],
-    ) -> Result<Option<Issued>, Fault>
-        ensures { Takes self.old (outcome read.entry) self.new result lines.new }
+    pub(crate) fn take(&mut self, read: Result<Line, TextFault>) -> Result<Option<Issued>, Fault>
+        ensures { Takes self.old (outcome read.entry) self.new result self.new.lines }
     {
-        self.obey(read?, lines)
+        self.obey(read?)
     }
 }

@@ -9,21 +9,12 @@ use crate::fault::{BeginFault, SessionFault};
 use crate::session::Session;
 use crate::turn::Answered;
 use crate::workspace::Workspace;
-use analysis::{MOST_ROWS, Row};
-use mapping::PlanLine;
+use analysis::Row;
 use reading::Reader;
 use std::alloc::Global;
 
 /// The least bytes of a room for an answer.
 pub(crate) const LEAST_ROOM: usize = 4096;
-
-/// What stands in the array of plan lines before a plan does. A constant, so that a line that asks for no plan clears none.
-const NO_LINE: PlanLine = PlanLine {
-    task: 0,
-    place: 0,
-    number: 0,
-    response: 0,
-};
 
 impl<'a> Session<'a> {
     /// A session of a script, with nothing taken. Only this call can want memory.
@@ -62,13 +53,11 @@ impl<'a> Session<'a> {
         let Some(read) = self.reader.read() else {
             return Ok(None);
         };
-        // An array, since a call takes no memory.
-        let mut lines = [NO_LINE; MOST_ROWS];
-        let outcome = self.work.take(read, &mut lines);
+        let outcome = self.work.take(read);
         // No loop counts here: the lines taken are the state of the session.
         self.taken += 1;
         let line = self.taken;
-        let bytes = write_outcome(room, line, outcome, &lines);
+        let bytes = write_outcome(room, line, outcome, &self.work.lines);
         Ok(Some(Answered {
             line,
             bytes,

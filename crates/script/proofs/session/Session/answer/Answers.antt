@@ -71,12 +71,12 @@ write_outcome-bytes-requires c =
     let k = s.taken in
     let h = c.in-Some.ensures in
     let m : Matches s.work (state_after script k) = record { rows = s.rows; pairs = s.pairs; charge = s.charge; margin = s.margin } in
-    let n : length c.take-outcome.new.lines ≡ 128 = search rules in
+    let n : length c.take-outcome.new.self.lines ≡ 128 = search rules in
     record {
       roomy = c.if-room-lt-LEAST_ROOM.false;
       early = omega (arith, s.short, s.counted, h.moved.further, h.moved.within);
       fitting =
-          replied_fitting (reply_read (state_after script k) (outcome c.in-Some.read)) c.take-outcome.result c.take-outcome.new.lines n
+          replied_fitting (reply_read (state_after script k) (outcome c.in-Some.read)) c.take-outcome.result c.take-outcome.new.self.lines n
           (c.take-outcome.ensures.reply (state_after script k) m);
     }
 
@@ -92,15 +92,15 @@ returns c =
     let e : drop k (lines_of script) ≡ y ∷ ys = s.rest ∙ h.line in
     let m : Matches s.work (state_after script k) = record { rows = s.rows; pairs = s.pairs; charge = s.charge; margin = s.margin } in
     let p = reply_read (state_after script k) (reading_of y) in
-    let r : Replies p c.take-outcome.result c.take-outcome.new.lines =
-    subst (λ (x : Read). Replies (reply_read (state_after script k) x) c.take-outcome.result c.take-outcome.new.lines) h.value
+    let r : Replies p c.take-outcome.result c.take-outcome.new.self.lines =
+    subst (λ (x : Read). Replies (reply_read (state_after script k) x) c.take-outcome.result c.take-outcome.new.self.lines) h.value
     (c.take-outcome.ensures.reply (state_after script k) m) in
-    let t = replied_text p c.take-outcome.result c.take-outcome.new.lines r (k + 1) in
+    let t = replied_text p c.take-outcome.result c.take-outcome.new.self.lines r (k + 1) in
     let w = c.write_outcome-bytes.ensures.writes in
     record {
       answer =
           ap (λ (b : ℕ). answered (k + 1) b (told_of c.take-outcome.result)) (w.0 ∙ ap length t)
-          ∙ ap (λ (x : Told). answered (k + 1) (length (answer_text (k + 1) p)) x) (replied_told p c.take-outcome.result c.take-outcome.new.lines r)
+          ∙ ap (λ (x : Told). answered (k + 1) (length (answer_text (k + 1) p)) x) (replied_told p c.take-outcome.result c.take-outcome.new.self.lines r)
           ∙ next_turn script k y ys e (length room) c.if-room-lt-LEAST_ROOM.false;
       room = w.1 ∙ ap (λ (x : List ℕ). x ++ drop (length x) room) t ∙ next_room script k y ys e room c.if-room-lt-LEAST_ROOM.false;
       within = c.write_outcome-bytes.ensures.within;
