@@ -17,6 +17,7 @@ pub(crate) fn fields_in<'a>(
     requires { Inside rest }
     ensures { FieldsAs (length fields.old) (λ _. map spot fields.new) rest.entry result }
 {
+    // By place: no proof is made of a `for` over places that are lent for fields.
     for i in 0..fields.len() {
         let line = rest.ok_or(TextFault::Form)?;
         (fields[i], rest) = first_field(line);

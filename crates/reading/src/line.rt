@@ -52,6 +52,7 @@ fn row_of<'a>(rest: Option<Field<'a>>) -> Result<Line<'a>, TextFault>
     requires { Inside rest }
     ensures { LineAs Word.Row rest.entry result }
 {
+    // An array, here and below: the word says how many fields there are.
     let mut fields = [Field::default(); 5];
     numbers_in(rest, &mut fields)?;
     let [number, cost, period, deadline, section] = fields;

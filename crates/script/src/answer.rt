@@ -7,6 +7,9 @@ ghost use Rattle.script.specs.Answers.{item, items, line_text, refusal_text, pla
 use crate::fault::Fault;
 use mapping::{Issued, PlanLine};
 
+// By functions that take the room and a place in it, and not by `write!`: no contract of it says that a text that fits is
+// written whole. A string of its own for each answer, copied into the room, takes half as long again.
+
 /// Puts `text` at a place, and gives the place after it.
 fn put(room: &mut [u8], place: usize, text: &[u8]) -> usize
     requires { place + length text.now ≤ length room.old }

@@ -29,6 +29,7 @@ fn answer_lines(heap: Global, mut session: Session) -> Result<Vec<u8>, AllocErro
 fn refuse_script(heap: Global, fault: Fault) -> Result<Vec<u8>, AllocError>
     ensures { IfOk result (λ v. v.items ≡ refusal_text 0 (refusal_of fault).field (refusal_of fault).code) }
 {
+    // An array: the refusal is written into it, and only the result takes memory.
     let mut room = [0u8; LEAST_ROOM];
     let bytes = write_refusal(&mut room, 0, fault.field(), fault.code());
     Vec::from_slice(heap, &room[..bytes])

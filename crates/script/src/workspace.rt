@@ -18,7 +18,7 @@ use std::alloc::{AllocError, Global};
 pub(crate) struct Workspace {
     pub(crate) sheet: Sheet,
     // Here, and not made anew for each line of a script: clearing it costs more than most lines.
-    /// The plan of the last mapping stands at its front.
+    /// The last plan that was issued stands at its front.
     pub(crate) lines: [PlanLine; MOST_ROWS],
     pub(crate) pile: Pairs<Margin<Charge<Choice>>>,
 }

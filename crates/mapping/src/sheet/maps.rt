@@ -47,7 +47,7 @@ impl Sheet {
         if room.len() < rows.len() {
             return Err(MapFault::Room);
         }
-        // Arrays, since a mapping takes no memory.
+        // An array and a vector of a fixed capacity, since a mapping takes no memory.
         let mut marks = [Mark::Above; MOST_ROWS];
         let mut lines = ArrayVec::new();
         let Some(()) = plan_rows(analysis, rule, rows, &mut marks[..rows.len()], &mut lines) else {
